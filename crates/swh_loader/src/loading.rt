@@ -60,8 +60,8 @@ fn load_at_once<N: Namer, D: Disk, S: Source, F: Folder, G: Gate>(
     outcome_of(load_kept(alloc, keeper, turn, &load, &mut job.input))
 }
 
-/// Loads the input of an origin, as a new visit of it. A stream is read part by part, and what is new of its objects is sent while
-/// it is read; a folder and a batch are read at once.
+/// Loads the input of an origin, as a new visit of it. A stream is read part by part, and what is new of its objects is sent
+/// while it is read; a folder and a batch are read at once.
 pub fn load_one<N: Namer, D: Disk, S: Source, F: Folder, G: Gate>(
     alloc: Global,
     namer: &N,
@@ -82,8 +82,8 @@ pub fn load_one<N: Namer, D: Disk, S: Source, F: Folder, G: Gate>(
     // Its report has a bound by the kind of the input.
     ensures short { IfOk result (λ loaded. end_room loaded.end ≤ detail_limit (kind_of job.old.input)) }
 
-    // Whatever it answers, it adds its visit's events alone, with nothing but what the input may give before
-    // its reading stops.
+    // Whatever it answers, it adds its visit's events alone, with nothing but what the input may give before its reading
+    // stops.
     ensures adds { AddsVisit (AreAllowed N.id_of (parts (sources S.tells S.left S.faults S.path)
         (folders F.tells F.holds F.faults F.opened_at)) job.old.input)
         (attempt turn.now.worker.now.by job.old.origin (kind_of job.old.input) date)

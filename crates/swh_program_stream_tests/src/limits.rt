@@ -157,6 +157,26 @@ const NUMBERS: &[Case<'static>] = &[
         printed: b"made\nhttps://e.org/p\t1\tfull\tswh:1:snp:1a8893e6a86f444e8be8e7bda6cb34fb1735a00e\nobjects 5002 closed 1 visits 1\n",
         leaves: None,
     },
+    // Each row has 19 bytes. The first 4,096 contents are a batch, which is sent before the fault is met; the others wait there.
+    Case {
+        name: "5,001 contents and a fault behind them",
+        setting: Setting {
+            input: Some(&[
+                Piece::Rows {
+                    count: 5_001,
+                    before: b"blob\ndata 6\n",
+                    fill: 0,
+                    after: b"\n",
+                },
+                Piece::Text(b"x\n"),
+            ]),
+            ..LOADING
+        },
+        runs: &[INIT, LOAD, CHECK],
+        statuses: &[0, 1, 0],
+        printed: b"made\nhttps://e.org/p\t1\tfailed\tstream 95019 grammar\nobjects 4096 closed 0 visits 1\n",
+        leaves: None,
+    },
 ];
 
 #[test]
