@@ -1,4 +1,4 @@
-use Rattle.std.proofs.Common.{◌≡◌, List, Bool, take, sym, subst, arith}
+use Rattle.std.proofs.Common.{List, take, sym, subst}
 use Rattle.std.proofs.lemmas.List.{take_all}
 use Rattle.swh_base.specs.declared.entry.Entry.{Entry}
 use Rattle.swh_model.proofs.PlainLists.{take-more}
