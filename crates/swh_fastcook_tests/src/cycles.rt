@@ -10,7 +10,7 @@ use swh_replay::Replayed;
 use swh_swhid::parse_core;
 
 /// Twenty bytes, of which the last is this.
-const fn id(last: u8) -> [u8; 20] {
+pub const fn id(last: u8) -> [u8; 20] {
     [
         0, 0, 0, 0, 0, 0, 0, 0, 0, 0, 0, 0, 0, 0, 0, 0, 0, 0, 0, last,
     ]
@@ -32,13 +32,21 @@ fn folder_name(last: u8) -> Name {
     Name { kind, id: id(last) }
 }
 
-fn add_folder(alloc: Global, shown: &mut Replayed, last: u8, body: &[u8]) -> Result<(), Fail> {
+/// Adds an object whose id ends in this byte.
+pub fn add_object(
+    alloc: Global,
+    shown: &mut Replayed,
+    kind: Kind,
+    made: &(u8, &[u8]),
+) -> Result<(), Fail> {
+    let (last, body) = made;
     let body = body.to_vec(alloc)?;
-    let Ok(object) = Object::make(alloc, &ByteNamer, Kind::Directory, body) else {
-        return Err(Fail::from("a folder"));
+    let Ok(object) = Object::make(alloc, &ByteNamer, kind, body) else {
+        return Err(Fail::from("an object"));
     };
-    if object.name() != folder_name(last) {
-        return Err(Fail::from("the name of a folder"));
+    let id = id(*last);
+    if object.name() != (Name { kind, id }) {
+        return Err(Fail::from("the name of an object"));
     }
     match shown.store.add(&[object.into_entry()]) {
         Ok(_) => Ok(()),
@@ -46,10 +54,11 @@ fn add_folder(alloc: Global, shown: &mut Replayed, last: u8, body: &[u8]) -> Res
     }
 }
 
-fn folders(alloc: Global) -> Result<Replayed, Fail> {
+/// An archive of the folders.
+pub fn folders(alloc: Global) -> Result<Replayed, Fail> {
     let mut shown = Replayed::new(alloc);
-    for (last, body) in FOLDERS {
-        add_folder(alloc, &mut shown, *last, body)?;
+    for folder in FOLDERS {
+        add_object(alloc, &mut shown, Kind::Directory, folder)?;
     }
     Ok(shown)
 }
