@@ -31,7 +31,7 @@ pub enum Held {
 }
 
 /// A source that gives its text in pieces of seven bytes.
-fn source_of(alloc: Global, (text, failing): Text) -> Result<MemorySource, AllocError> {
+pub fn source_of(alloc: Global, (text, failing): Text) -> Result<MemorySource, AllocError> {
     let bytes = Vec::from_slice(alloc, text)?;
     let failing = Vec::from_slice(alloc, failing)?;
     Ok(MemorySource::new(String::new(alloc), bytes, 7, failing))

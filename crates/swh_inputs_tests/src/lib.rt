@@ -10,3 +10,5 @@ mod held;
 mod openings;
 #[cfg(test)]
 mod readings;
+#[cfg(test)]
+mod streams;
