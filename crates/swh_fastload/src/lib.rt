@@ -6,6 +6,7 @@
 //! Callers may rely on: for each command a loader gives exactly the objects that it makes and that were not given
 //! before, each after all that it names, or it tells the place of the first line that names what is not there, or a
 //! body above the limit; at the end it gives the snapshot of the tips; after a refusal it answers the same again.
+//! A reader of a stream keeps the body of each object that was given, its own or an equal one that it was lent to share.
 //! An input has one meaning at most, or one fault, or passes limits first at one place, and has no two of these.
 #![tactic(auto)]
 

@@ -16,7 +16,7 @@ use crate::ending::end_parts;
 use crate::feeding::{feed_blob, feed_reset, feed_tag};
 use std::alloc::Global;
 use std::marker::Model;
-use swh_base::Namer;
+use swh_base::{Name, Namer, Shared};
 use swh_fastgrammar::Command;
 use swh_fastmeaning::{FeedFault, MarksAndTips, Parts};
 use swh_made::Seen;
@@ -170,5 +170,12 @@ impl<N: Namer> FastLoad<N> {
                 Err(fault)
             }
         }
+    }
+
+    /// Where an object of this name and body was made, this body is kept in place of its own. Nothing else changes.
+    pub fn share(&mut self, name: &Name, body: Shared<u8>)
+        ensures { self.new ≡ self.old }
+    {
+        self.parts.seen.share(name, body);
     }
 }

@@ -13,7 +13,7 @@ use crate::bad::{BadStream, InputFault};
 use crate::load::FastLoad;
 use std::alloc::{AllocError, Global};
 use std::marker::Model;
-use swh_base::Namer;
+use swh_base::{Name, Namer, Shared};
 use swh_fastlex::Window;
 use swh_fastmeaning::FeedFault;
 use swh_fastread::{ReadFail, Reader};
@@ -30,7 +30,8 @@ pub enum StreamPart<N: Namer> {
     Last(Objects<N>),
 }
 
-/// A stream with the loader of its commands. Contracts see where its reader stands and what its loader knows.
+/// A stream with the loader of its commands. It keeps the body of each object that was given: its own, or an equal one that
+/// it was lent to share. Contracts see where its reader stands and what its loader knows.
 #[derive(Drop)]
 pub struct StreamParts<N: Namer, S: Source> {
     reader: Reader<S>,
@@ -190,6 +191,13 @@ impl<N: Namer, S: Source> StreamParts<N, S> {
     {
         let _place = self.reader.place();
         next_part(alloc, &mut self.reader, &mut self.load, head)
+    }
+
+    /// Where an object of this name and body was given, this body is kept in place of its own. Nothing else changes.
+    pub fn share(&mut self, name: &Name, body: Shared<u8>)
+        ensures { self.new ≡ self.old }
+    {
+        self.load.share(name, body);
     }
 
     /// The source, which may have given more than was read, by a window at most.

@@ -17,7 +17,7 @@ use crate::end::Loaded;
 use crate::outcome::outcome_of;
 use std::alloc::Global;
 use swh_alone::load_kept_parts;
-use swh_base::{Bytes, Memory, Namer, Url, VisitKind};
+use swh_base::{Bytes, Memory, Name, Namer, Shared, Url, VisitKind};
 use swh_fastlex::Window;
 use swh_fastload::StreamParts;
 use swh_fastread::Lent;
@@ -77,6 +77,9 @@ fn load_lent<'a, N: Namer, D: Disk, S: Source, F: Folder, G: Gate>(
                 ensures same_path { parts.new.standing.place.path ≡ parts.old.standing.place.path }
                 ensures later { parts.old.standing.place.faults ≤ parts.new.standing.place.faults }
             { next_of_stream(alloc, parts, head) },
+            share: |parts: &mut StreamParts<N, Lent<S>>, name: &Name, body: Shared<u8>|
+                ensures { parts.new ≡ parts.old }
+            { parts.share(name, body) },
         },
     };
     let mut parts = StreamParts::new(alloc, window, *namer, Lent { source });

@@ -1,4 +1,5 @@
 pub mod Elements
 pub mod Givens
 pub mod Seens
+pub mod Sharings
 pub mod Wholes

@@ -12,6 +12,8 @@ ghost use Rattle.std.specs.Prelude.{
   map,
   slice_get,
   Some,
+  IfNone,
+  IfSome,
   IfOk,
   OnOk,
   OnErr,
@@ -21,7 +23,7 @@ ghost use Rattle.std.specs.BTreeMap.{is_at};
 ghost use Rattle.std.specs.Ordering.{nat_cmp};
 ghost use Rattle.swh_model.specs.Meaning.{Made};
 ghost use Rattle.swh_made.specs.Making.{made_from, object_of};
-ghost use Rattle.swh_made.specs.Seen.{digest_of, kept_made, IsNoted, SamePlaces, Adds};
+ghost use Rattle.swh_made.specs.Seen.{digest_of, kept_made, places_at, IsNoted, SamePlaces, Adds};
 
 use crate::places::{Places, add_other, digest_of, lead, others_of};
 use std::alloc::Global;
@@ -29,7 +31,7 @@ use std::marker::{Model, PhantomData};
 use swh_base::{Kind, Memory, Name, Namer, Shared};
 use swh_object::Object;
 
-/// What is kept of an object: its body is shared with it.
+/// What is kept of an object: its body is shared with it, or is an equal one that was lent.
 #[derive(Drop)]
 pub struct Kept {
     pub kind: Kind,
@@ -82,19 +84,20 @@ fn stands_at(made: &[Kept], place: usize, kind: Kind, body: &[u8]) -> bool
     }
 }
 
-/// Whether this object stands at one of these places.
-fn stands_among(made: &[Kept], places: &[usize], kind: Kind, body: &[u8]) -> bool
-    ensures found { IsTrue result → Contains (map kept_made made.now) (record { kind = kind; body = body.now }) }
-    ensures none { (k : ℕ) → Contains places.now k
-        → slice_get (map kept_made made.now) k ≡ Some (record { kind = kind; body = body.now }) → IsTrue result }
+/// At which of these places this object stands.
+fn place_among(made: &[Kept], places: &[usize], kind: Kind, body: &[u8]) -> Option<usize>
+    ensures found { IfSome result (λ place.
+        slice_get (map kept_made made.now) place ≡ Some (record { kind = kind; body = body.now })) }
+    ensures none { IfNone result ((k : ℕ) → Contains places.now k
+        → slice_get (map kept_made made.now) k ≡ Some (record { kind = kind; body = body.now }) → ⊥) }
 {
     for place in places {
         let here = stands_at(made, *place, kind, body);
         if here {
-            return true;
+            return Some(*place);
         }
     }
-    false
+    None
 }
 
 /// Looks for the object of this name and body at the places of its id's digest; where it stands at none of them, the digest
@@ -119,11 +122,39 @@ fn note(
         return Ok(Novelty::Known);
     }
     let others = others_of(&places.further, digest);
-    if stands_among(made, others, name.kind, body) {
+    if place_among(made, others, name.kind, body).is_some() {
         return Ok(Novelty::Known);
     }
     add_other(alloc, &mut places.further, digest, place)?;
     Ok(Novelty::New)
+}
+
+/// Where the object of this name and body stands.
+fn place_of(places: &Places, made: &[Kept], name: &Name, body: &[u8]) -> Option<usize>
+    ensures found { IfSome result (λ place.
+        slice_get (map kept_made made.now) place ≡ Some (object_of name.now.kind body.now)) }
+    ensures none { IfNone result ((k : ℕ) → Contains (places_at places.now (digest_of name.now.id)) k
+        → slice_get (map kept_made made.now) k ≡ Some (object_of name.now.kind body.now) → ⊥) }
+{
+    let digest = digest_of(&name.id);
+    let Some(first) = places.first.get(&digest) else {
+        return None;
+    };
+    if stands_at(made, *first, name.kind, body) {
+        return Some(*first);
+    }
+    place_among(made, others_of(&places.further, digest), name.kind, body)
+}
+
+/// Puts this body in place of the one of the object of this name and body, where it stands.
+fn share_body(places: &Places, made: &mut [Kept], name: &Name, body: Shared<u8>)
+    ensures { map kept_made made.new ≡ map kept_made made.old }
+{
+    let Some(place) = place_of(places, made, name, body.as_slice()) else {
+        return;
+    };
+    let kind = name.kind;
+    made[place] = Kept { kind, body };
 }
 
 impl<N: Namer> Seen<N> {
@@ -157,5 +188,13 @@ impl<N: Namer> Seen<N> {
                 Ok(Novelty::New)
             }
         }
+    }
+
+    /// Where an object of this name and body was made, this body is kept in place of its own, which is let go. Nothing else
+    /// changes.
+    pub fn share(&mut self, name: &Name, body: Shared<u8>)
+        ensures { self.new ≡ self.old }
+    {
+        share_body(&self.places, self.made.as_mut_slice(), name, body);
     }
 }

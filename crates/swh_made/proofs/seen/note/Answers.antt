@@ -1,10 +1,11 @@
-use Rattle.std.proofs.Common.{◌≡◌, ℕ, List, Option, Some, Contains, map, slice_get, refl, sym, subst}
+use Rattle.std.proofs.Common.{◌≡◌, ℕ, List, Option, Some, Contains, map, slice_get, refl, sym, ◌∙◌, subst}
 use Rattle.std.specs.Prelude.{IfNone, IfSome}
 use Rattle.swh_made.specs.Making.{object_of}
 use Rattle.swh_made.specs.declared.places.Places.{Places}
 use Rattle.swh_made.specs.declared.seen.Novelty.TheVariants.{New, Known}
 use Rattle.swh_made.specs.Seen.{kept_made, IsNoted, LeadsTo, LedTo}
 use Rattle.swh_made.proofs.Seens.{contains_at, not_true, led_new, led_none, led_same, led_other, led_absent}
+use Rattle.swh_made.proofs.Sharings.{none_there}
 use Rattle.swh_made.proofs.seen.note.Goals as goal
 
 pub returns-in_default-clause-noted : goal.returns-in_default-clause-noted
@@ -38,5 +39,5 @@ returns-clause-noted c =
       led_other digest c.in-Some.first c.args.place old new l c.in_ok-add_other.ensures.ok,
       led_absent digest c.in-Some.first old new (λ (k : ℕ). slice_get (map kept_made c.args.made.now) k ≡ Some (object_of c.args.name.now.kind c.args.body.now)) l
           (λ e. not_true _ (c.stands_at.ensures.1 e) c.if-stands_at.false)
-          (λ k there e. not_true _ (c.stands_among.ensures.none k (subst (λ (t : List ℕ). Contains t k) (sym c.others_of-others.ensures) there) e) c.if-stands_among.false),
+          (λ k there e. none_there c.place_among.result _ (sym c.is_some.ensures ∙ c.if-is_some.false) c.place_among.ensures.none k (subst (λ (t : List ℕ). Contains t k) (sym c.others_of-others.ensures) there) e),
     )

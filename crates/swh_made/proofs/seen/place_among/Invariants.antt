@@ -1,7 +1,7 @@
 use Rattle.std.proofs.Common.{◌≡◌, ℕ, ◌<◌, Some, map, slice_get, get_or}
 use Rattle.swh_model.specs.Meaning.{Made}
 use Rattle.swh_made.specs.Seen.{kept_made}
-use Rattle.swh_made.proofs.seen.stands_among.Given as goal
+use Rattle.swh_made.proofs.seen.place_among.Given as goal
 
 abbrev pub invariant-loop-place : goal.invariant-loop-place
 invariant-loop-place l =
