@@ -87,7 +87,8 @@ fn load_lent<'a, N: Namer, D: Disk, S: Source, F: Folder, G: Gate>(
     parts.close()
 }
 
-/// Loads a stream that was found, as a new visit of its origin, and sends what is new of its objects while it is read.
+/// Loads a stream that was found, as a new visit of its origin, and sends what is new of its objects while it is read. Of
+/// what is held its reader keeps the held body.
 pub fn load_stream<N: Namer, D: Disk, S: Source, F: Folder, G: Gate>(
     alloc: Global,
     namer: &N,

@@ -16,7 +16,13 @@ use Rattle.swh_loader.proofs.Streams.{Keeps, goes_on, stream_load, stream_loan, 
 use Rattle.swh_loader.proofs.streaming.load_lent.Goals as goal
 
 pub load_kept_parts-requires-clause-takes : goal.load_kept_parts-requires-clause-takes
-load_kept_parts-requires-clause-takes g c κs within = λ found. (c.new-parts.ensures.still, λ s ready. (c.requires, search rules), λ s x t ready post. goes_on s.now t.now x post.1.0 post.1.1.0)
+load_kept_parts-requires-clause-takes g c κs within = λ found. (
+  c.new-parts.ensures.still,
+  λ s ready. (c.requires, search rules),
+  λ s x t ready post. goes_on s.now t.now x post.1.0 post.1.1.0,
+  λ s name body ready. search rules,
+  λ s name body x t ready post. search rules,
+)
 
 pub load_kept_parts-requires-clause-whole : goal.load_kept_parts-requires-clause-whole
 load_kept_parts-requires-clause-whole g c κs within =
