@@ -1,10 +1,10 @@
 // A place that is made of calls.
-ghost use Rattle.swh_place.specs.Calls.{MayLook, Looks, MayCertify, Certifies, Applies};
+ghost use Rattle.swh_place.specs.Calls.{MayLook, Looks, Finds, MayCertify, Certifies, Applies};
 
 use crate::place::{Place, Wanted};
 use crate::refusal::Refusal;
 use std::alloc::Global;
-use swh_base::{Entry, Memory, Name};
+use swh_base::{Entry, Memory, Name, Shared};
 use swh_closure::Cert;
 use swh_model::Outcome;
 use swh_store::Standing;
@@ -24,10 +24,11 @@ pub trait Said<Q: Wanted, S> {
 /// The calls of a loader of this number, one for each method of a place, and what is said of its seats. A function whose
 /// archive is of any disks can make one, where no type of its own can be a place.
 #[derive(Drop)]
-pub struct Calls<W, A, B, C> {
+pub struct Calls<W, A, B, C, D> {
     pub by: u32,
     pub said: W,
     pub standing: A,
+    pub body: D,
     pub certify: B,
     pub apply: C,
 }
@@ -39,13 +40,17 @@ impl<
     A: Fn(&mut S, &Entry) -> Result<Standing, Memory>,
     B: Fn(&mut S, [u8; 20], Vec<Name>) -> Result<Cert, Memory>,
     C: Fn(&mut S, Q) -> Result<Outcome, Refusal>,
-> Place<Q, S> for Calls<W, A, B, C> {
+    D: Fn(&mut S, &Name) -> Option<Shared<u8>>,
+> Place<Q, S> for Calls<W, A, B, C, D> {
     ghost words = { λ p. W.words p.by };
 
     ghost fits = { λ p.
         ((s : _) (e : _) → MayLook (W.words p.by) s.now → A.pre p.standing s e)
         × ((s : _) (e : _) (r : _) (t : _) → MayLook (W.words p.by) s.now → A.post p.standing s e r t
         → Looks (W.words p.by) s.now e.now t.now r)
+        × ((s : _) (name : _) → MayLook (W.words p.by) s.now → D.pre p.body s name)
+        × ((s : _) (name : _) (r : _) (t : _) → MayLook (W.words p.by) s.now → D.post p.body s name r t
+        → Finds (W.words p.by) s.now name.now t.now r)
         × ((s : _) (snapshot : _) (names : _) → MayCertify (W.words p.by) s.now snapshot → B.pre p.certify s snapshot names)
         × ((s : _) (snapshot : _) (names : _) (r : _) (t : _) → MayCertify (W.words p.by) s.now snapshot
         → B.post p.certify s snapshot names r t → Certifies (W.words p.by) s.now snapshot t.now r)
@@ -55,6 +60,10 @@ impl<
 
     fn standing(&self, seat: &mut S, entry: &Entry) -> Result<Standing, Memory> {
         (self.standing)(seat, entry)
+    }
+
+    fn body(&self, seat: &mut S, name: &Name) -> Option<Shared<u8>> {
+        (self.body)(seat, name)
     }
 
     fn certify(

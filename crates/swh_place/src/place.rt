@@ -1,7 +1,7 @@
 // Where a loader's plans go.
 use crate::refusal::Refusal;
 use std::alloc::Global;
-use swh_base::{Entry, Memory, Name, Namer};
+use swh_base::{Entry, Memory, Name, Namer, Shared};
 use swh_closure::Cert;
 use swh_model::Outcome;
 use swh_plan::Plan;
@@ -31,9 +31,9 @@ impl<N: Namer> Wanted for Plan<N> {
 /// An archive as one loader knows it, of which it wants things of type `Q`. What it knows lies in a seat of type `S`: its
 /// number, a front of the history, and how many events it made. Contracts see all of it through the place's words.
 pub trait Place<Q: Wanted, S> {
-    ghost use Rattle.std.specs.Prelude.{◌≡◌, [], IfOk, IfErr};
+    ghost use Rattle.std.specs.Prelude.{◌≡◌, [], Some, IfOk, IfErr, IfSome};
     ghost use Rattle.swh_base.specs.Snapshot.{snapshot_name};
-    ghost use Rattle.swh_model.specs.Archive.{IsClosed};
+    ghost use Rattle.swh_model.specs.Archive.{IsClosed, body_of};
     ghost use Rattle.swh_store.specs.Adding.{IsStanding};
     ghost use Rattle.swh_place.specs.Knowing.{Words, IsLawful, CarriesOut, RefusesPlan, held_in};
 
@@ -50,6 +50,13 @@ pub trait Place<Q: Wanted, S> {
         requires ready { (words self.now).ready seat.old }
         ensures looks { (words self.now).adds [] seat.old seat.new }
         ensures standing { IfOk result (IsStanding (held_in ((words self.now).known seat.new)) entry.now) };
+
+    /// The body that is held under a name, shared; none where there is none, or memory is short.
+    fn body(&self, seat: &mut S, name: &Name) -> Option<Shared<u8>>
+        requires fits { fits self.now }
+        requires ready { (words self.now).ready seat.old }
+        ensures looks { (words self.now).adds [] seat.old seat.new }
+        ensures held { IfSome result (λ body. body_of (held_in ((words self.now).known seat.new)) name.now ≡ Some body) };
 
     /// A certificate that all that is reached from a snapshot is held. The names are those of the input, among which all of
     /// it stands.

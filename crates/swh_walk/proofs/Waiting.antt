@@ -248,6 +248,15 @@ module _ {N : Type 0} (id : Kind → List ℕ → List ℕ) (alone : Bool) where
     each = all-append (IsInHand b q) t.done (e ∷ []) (all_as (IsInHand a p) (IsInHand b q) h.keeps t.done t.each) (h.taken, tt);
   }
 
+  -- others may have added something since
+  pub taken_on : (a b c : Bodies) (p q : Pending N) (es : List Entry) → (alone ≡ true → c ≡ b) → IsWithin b c → AreTakenIn id alone a p es b q → AreTakenIn id alone a p es c q
+  taken_on a b c p q es same w t = record {
+    waiting = waits_on b c q same t.waiting;
+    among = t.among;
+    keeps = λ e h. keeps_within b c q w e (t.keeps e h);
+    taken = all_as (IsInHand b q) (IsInHand c q) (keeps_within b c q w) es t.taken;
+  }
+
   in_hand_held : (a b : Bodies) (p : Pending N) → IsWithin a b → AllHeld b p.objects.items → (e : Entry) → IsInHand a p e → IsHeldWhole b e
   in_hand_held a b p w sent e (inl held) = w e.name e.body held
   in_hand_held a b p w sent e (inr waits) = waits_held b p.objects.items e sent waits

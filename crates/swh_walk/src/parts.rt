@@ -1,7 +1,7 @@
 // An input that is read part by part.
 use crate::input::Input;
 use crate::reading::Reads;
-use swh_base::{Memory, Namer};
+use swh_base::{Memory, Name, Namer, Shared};
 use swh_made::Objects;
 use swh_object::Object;
 
@@ -30,7 +30,7 @@ impl<N: Namer, B> GoesOn for Next<N, B> {
 
 /// A way to read inputs of type `I` part by part, of which each turn gives an `X`.
 pub trait ReadsParts<I, X: GoesOn> {
-    ghost use Rattle.std.specs.Prelude.{ℕ, ◌<◌, Result, IfOk};
+    ghost use Rattle.std.specs.Prelude.{◌≡◌, ℕ, ◌<◌, Result, IfOk};
     ghost use Rattle.swh_base.specs.declared.memory.Memory.{Memory};
 
     /// That the input may be read on.
@@ -47,6 +47,11 @@ pub trait ReadsParts<I, X: GoesOn> {
         ensures gives { gives self.now input.old result input.new }
         ensures on { IfOk result (λ next. X.more next → takes self.now input.new) }
         ensures fewer { IfOk result (λ next. X.more next → left self.now input.new < left self.now input.old) };
+
+    /// Lets what the input keeps of an object of this name and body be this body, which is shared. Contracts see no change.
+    fn share(&self, input: &mut I, name: &Name, body: Shared<u8>)
+        requires { takes self.now input.old }
+        ensures { input.new ≡ input.old };
 }
 
 /// The way that reads an input at once: all of it is its last part.
@@ -72,6 +77,8 @@ impl<'a, N: Namer, I, B: Drop, R: Reads<I, Input<N, B>>> ReadsParts<I, Next<N, B
             Err(fault) => Err(fault),
         }
     }
+
+    fn share(&self, _input: &mut I, _name: &Name, _body: Shared<u8>) {}
 }
 
 /// What is said of inputs of type `I` that a call reads part by part.
@@ -85,22 +92,30 @@ pub trait SaidOfParts<I> {
     ghost left: { I → ℕ };
 }
 
-/// The way of a call for each part. A function that is generic over sources can make one, where no type of its own can be
-/// such a way.
+/// The way of a call for each part, and of one that shares what is held. A function that is generic over sources can make
+/// one, where no type of its own can be such a way.
 #[derive(Drop)]
-pub struct ByParts<W, F> {
+pub struct ByParts<W, F, G> {
     pub said: W,
     pub call: F,
+    pub share: G,
 }
 
-impl<I, X: GoesOn, W: SaidOfParts<I>, F: Fn(&mut I) -> Result<X, Memory>> ReadsParts<I, X>
-    for ByParts<W, F> {
+impl<
+    I,
+    X: GoesOn,
+    W: SaidOfParts<I>,
+    F: Fn(&mut I) -> Result<X, Memory>,
+    G: Fn(&mut I, &Name, Shared<u8>),
+> ReadsParts<I, X> for ByParts<W, F, G> {
     ghost use Rattle.std.specs.Prelude.{◌≡◌, ◌<◌, IfOk};
 
     ghost takes = { λ r i. W.ready i
         × ((s : _) → W.ready s.now → F.pre r.call s)
         × ((s : _) (x : _) (t : _) → W.ready s.now → F.post r.call s x t
-        → IfOk x (λ next. X.more next → W.ready t.now × (W.left t.now < W.left s.now))) };
+        → IfOk x (λ next. X.more next → W.ready t.now × (W.left t.now < W.left s.now)))
+        × ((s : _) (n : _) (b : _) → W.ready s.now → G.pre r.share s n b)
+        × ((s : _) (n : _) (b : _) (x : _) (t : _) → W.ready s.now → G.post r.share s n b x t → t.now ≡ s.now) };
 
     ghost gives = { λ r i x now. (s : _) × (t : _) × (s.now ≡ i) × F.post r.call s x t × (t.now ≡ now) };
 
@@ -108,5 +123,9 @@ impl<I, X: GoesOn, W: SaidOfParts<I>, F: Fn(&mut I) -> Result<X, Memory>> ReadsP
 
     fn next(&self, input: &mut I) -> Result<X, Memory> {
         (self.call)(input)
+    }
+
+    fn share(&self, input: &mut I, name: &Name, body: Shared<u8>) {
+        (self.share)(input, name, body)
     }
 }

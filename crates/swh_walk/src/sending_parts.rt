@@ -37,6 +37,35 @@ fn add_names<N: Namer>(names: &mut Vec<Name>, objects: &[Object<N>]) -> Result<(
     Ok(())
 }
 
+/// The names of a part, which stand last, or none where all of the part waits.
+fn names_to_share(names: &[Name], part: usize, all_wait: bool) -> &[Name] {
+    if all_wait {
+        return &[];
+    }
+    &names[names.len().saturating_sub(part)..]
+}
+
+/// Lets the input keep the held body of each of these names, in place of its own. Names that are not held change nothing.
+fn share_held<N: Namer, S, P: Place<Plan<N>, S>, I, B: Drop, R: ReadsParts<I, Next<N, B>>>(
+    place: &P,
+    seat: &mut S,
+    read: &R,
+    input: &mut I,
+    names: &[Name],
+)
+    requires fits { P.fits place.now }
+    requires ready { (P.words place.now).ready seat.old }
+    requires takes { R.takes read.now input.old }
+    ensures looks { (P.words place.now).adds [] seat.old seat.new }
+    ensures same { input.new ≡ input.old }
+{
+    'names: for name in names {
+        if let Some(body) = place.body(seat, name) {
+            read.share(input, name, body);
+        }
+    }
+}
+
 /// Takes the last objects in, sends what waits then, and answers the names of all objects, in ascending order.
 fn send_rest<N: Namer, S, P: Place<Plan<N>, S>, B: Drop>(
     alloc: Global,
@@ -76,7 +105,7 @@ fn send_rest<N: Namer, S, P: Place<Plan<N>, S>, B: Drop>(
 /// Reads an input part by part, and sends what is new of its objects, in order, up to the first that collides. A batch is
 /// sent as soon as it is full; what waits where the input is bad is not sent. Of the objects it keeps those of the part at
 /// hand and those that wait, which are a batch at most; of what was sent or found held it keeps the name alone, for the
-/// certificate.
+/// certificate. What was found held is kept by the input as the held body.
 pub fn send_parts<N: Namer, S, P: Place<Plan<N>, S>, I, B: Drop, R: ReadsParts<I, Next<N, B>>>(
     alloc: Global,
     place: &P,
@@ -104,11 +133,21 @@ pub fn send_parts<N: Namer, S, P: Place<Plan<N>, S>, I, B: Drop, R: ReadsParts<I
                 let Ok(()) = add_names(&mut names, &objects) else {
                     return Err(Stop::Memory);
                 };
+                let part = objects.len();
+                let most = pending.objects.len().saturating_add(part);
                 pending = match send_part(alloc, place, seat, pending, objects) {
                     Ok(Taken::Waits(waiting)) => waiting,
                     Ok(Taken::Collides(name)) => return Ok(Sent::Met(name)),
                     Err(why) => return Err(why),
                 };
+                let all_wait = pending.objects.len() >= most;
+                share_held(
+                    place,
+                    seat,
+                    read,
+                    input,
+                    names_to_share(&names, part, all_wait),
+                );
             }
             Ok(Next::Last(made)) => return send_rest(alloc, place, seat, pending, names, made),
             Ok(Next::Bad(bad)) => return Ok(Sent::Bad(bad)),

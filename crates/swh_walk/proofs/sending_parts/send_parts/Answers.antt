@@ -1,12 +1,12 @@
-use Rattle.std.proofs.Common.{inl, refl, [], ◌++◌}
+use Rattle.std.proofs.Common.{inl, refl, sym, subst, [], ◌++◌}
 use Rattle.std.proofs.lemmas.Result.{IfOk-weaker, IfErr-weaker, on_ok_weaker}
 use Rattle.swh_place.specs.Knowing.{held_in}
 use Rattle.swh_walk.specs.Owning.{IsBatchAmong, IsBatchAsked}
 use Rattle.swh_walk.specs.Parts.{AreGiven, IsBatchFor, IsBatchAskedFor, IsLastSent, IsSentSo}
 use Rattle.swh_walk.specs.Walking.{StopsAfter}
-use Rattle.swh_walk.proofs.InHand.{hand_none, hand_more, hand_sent, last_adds, last_sent, last_stops, part_adds, part_met, part_stops, read_on}
-use Rattle.swh_walk.proofs.Steps.{adds_none, adds_ready}
-use Rattle.swh_walk.proofs.Waiting.{waits_none}
+use Rattle.swh_walk.proofs.InHand.{HasInHand, hand_none, hand_more, hand_sent, last_adds, last_sent, last_stops, part_adds, part_met, part_stops, read_on}
+use Rattle.swh_walk.proofs.Steps.{adds_looks, adds_none, adds_ready, adds_then, adds_within, looks_bodies}
+use Rattle.swh_walk.proofs.Waiting.{taken_on, waits_none}
 use Rattle.swh_walk.proofs.sending_parts.send_parts.Goals as goal
 
 pub parts-init : goal.parts-init
@@ -42,18 +42,33 @@ parts-preserved g c =
     let m = c.parts.seat in
     let p = c.parts.pending in
     let now = c.next.new.input in
+    let b = c.send_part.new.seat in
+    let d = c.share_held.new.seat in
+    let P = IsBatchFor w.alone (AreGiven gives i) in
+    let looks = c.share_held.ensures.looks in
     let given = rw c.in-Ok-Part.field-0-is at (rw c.in-Ok-Part.is at c.next.ensures.gives) in
     let taken = rw c.in-Ok-Waits.field-0-is at c.in-Ok-Waits.ensures.taken in
     let on = rw c.in-Ok-Part.field-0-is at (rw c.in-Ok-Part.is at c.next.ensures.on) in
+    let still = taken_on id w.alone (held_in (w.known m)) (held_in (w.known b)) (held_in (w.known d)) p c.in-Ok-Waits.waiting c.in-Ok-Part.objects.items (looks_bodies id w law b d looks) (adds_within id w law P [] b d (adds_looks id w law P b d looks)) taken in
     record {
-      adds = part_adds gives i id w law (held_in (w.known m)) p c.parts.input now before.hand a m c.send_part.new.seat before.adds c.in-Ok-Part.objects given c.in-Ok-Waits.ensures.adds;
-      waits = taken.waiting;
-      hand = hand_more gives i id w.alone (held_in (w.known m)) (held_in (w.known c.send_part.new.seat)) p c.in-Ok-Waits.waiting c.parts.input now c.in-Ok-Part.objects before.hand given taken;
-      takes = on tt;
+      adds = adds_then id w law P [] [] a b d (part_adds gives i id w law (held_in (w.known m)) p c.parts.input now before.hand a m b before.adds c.in-Ok-Part.objects given c.in-Ok-Waits.ensures.adds) (adds_looks id w law P b d looks);
+      waits = still.waiting;
+      hand = subst (HasInHand gives i (held_in (w.known d)) c.in-Ok-Waits.waiting) (sym c.share_held.ensures.same) (hand_more gives i id w.alone (held_in (w.known m)) (held_in (w.known d)) p c.in-Ok-Waits.waiting c.parts.input now c.in-Ok-Part.objects before.hand given still);
+      takes = subst (g.R.ReadsParts.takes c.args.read.now) (sym c.share_held.ensures.same) (on tt);
     }
 
+pub share_held-requires-clause-ready : goal.share_held-requires-clause-ready
+share_held-requires-clause-ready g c κs within =
+    let w = g.P.Place.words c.args.place.now in
+    adds_ready g.N.Namer.id_of w (g.met.P.Place.lawful c.args.place.now) (IsBatchAmong w.alone (c.parts.pending.objects.items ++ c.in-Ok-Part.objects.items)) [] c.parts.seat c.send_part.new.seat c.in-Ok-Waits.ensures.adds
+
+pub share_held-requires-clause-takes : goal.share_held-requires-clause-takes
+share_held-requires-clause-takes g c κs within = let on = rw c.in-Ok-Part.field-0-is at (rw c.in-Ok-Part.is at c.next.ensures.on) in on tt
+
 pub parts-smaller : goal.parts-smaller
-parts-smaller g c = let fewer = rw c.in-Ok-Part.field-0-is at (rw c.in-Ok-Part.is at c.next.ensures.fewer) in fewer tt
+parts-smaller g c =
+    let fewer = rw c.in-Ok-Part.field-0-is at (rw c.in-Ok-Part.is at c.next.ensures.fewer) in
+    rw c.share_held.ensures.same (fewer tt)
 
 pub returns-in_default-clause-stops : goal.returns-in_default-clause-stops
 returns-in_default-clause-stops g c = record { mid = c.parts.seat; first = c.parts.invariant.adds; stops = inl (refl, refl) }
