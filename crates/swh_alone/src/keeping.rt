@@ -1,6 +1,7 @@
 // What a keeper answers to its one loader.
-ghost use Rattle.std.specs.Prelude.{◌≡◌, [], None, IfOk, IfErr};
+ghost use Rattle.std.specs.Prelude.{◌≡◌, [], Some, None, IfOk, IfErr, IfSome};
 ghost use Rattle.swh_base.specs.Snapshot.{snapshot_name};
+ghost use Rattle.swh_model.specs.Archive.{body_of};
 ghost use Rattle.swh_model.specs.Step.{replay};
 ghost use Rattle.swh_store.specs.Adding.{IsStanding};
 ghost use Rattle.swh_outside.specs.Views.{disks};
@@ -10,7 +11,7 @@ ghost use Rattle.swh_alone.specs.Alone.{AddsOn, alone_words};
 
 use crate::fitting::plan_fits;
 use crate::refusing::refused;
-use swh_base::{Entry, Kind, Name, Namer};
+use swh_base::{Entry, Kind, Name, Namer, Shared};
 use swh_closure::Cert;
 use swh_keeper::Keeper;
 use swh_model::Outcome;
@@ -26,6 +27,21 @@ pub fn standing_in<N: Namer, D: Disk>(keeper: &mut Keeper<N, D>, entry: &Entry) 
     ensures standing { IsStanding (replay keeper.new.history).bodies entry.now result }
 {
     keeper.store().standing(entry)
+}
+
+/// The body that a keeper holds under a name, shared; none where there is none, or memory is short.
+pub fn body_in<N: Namer, D: Disk>(keeper: &mut Keeper<N, D>, name: &Name) -> Option<Shared<u8>>
+    requires { keeper.old.wounded ≡ None }
+    ensures looks { AddsOn N.id_of (disks D.tells D.file D.faults) [] keeper.old keeper.new }
+    ensures held { IfSome result (λ body. body_of (replay keeper.new.history).bodies name.now ≡ Some body) }
+{
+    let Some(entry) = keeper.store().get(name) else {
+        return None;
+    };
+    match entry.body.again() {
+        Ok(body) => Some(body),
+        Err(_) => None,
+    }
 }
 
 /// A certificate that all that is reached from a snapshot is held, where all of it stands among these names. Whoever applies

@@ -12,7 +12,7 @@ mod loading_parts;
 mod refusing;
 mod seat;
 
-pub use keeping::{carry_out, certificate_in, standing_in};
+pub use keeping::{body_in, carry_out, certificate_in, standing_in};
 pub use loading::load_kept;
 pub use loading_parts::load_kept_parts;
 pub use seat::Alone;

@@ -1,11 +1,12 @@
 // A load over a keeper, of an input that is read part by part.
-ghost use Rattle.std.specs.Prelude.{◌≡◌, ℕ, List, [], Some, None, IfOk, IfErr};
+ghost use Rattle.std.specs.Prelude.{◌≡◌, ℕ, List, [], Some, None, IfOk, IfErr, IfSome};
 ghost use Rattle.swh_base.specs.Snapshot.{snapshot_name};
 ghost use Rattle.swh_base.specs.declared.entry.Entry.{Entry};
 ghost use Rattle.swh_plan.specs.Plan.{wish_of};
 ghost use Rattle.swh_store.specs.Adding.{IsStanding};
 ghost use Rattle.swh_place.specs.Knowing.{CarriesOut, RefusesPlan};
 ghost use Rattle.swh_outside.specs.Views.{disks};
+ghost use Rattle.swh_model.specs.Archive.{body_of};
 ghost use Rattle.swh_model.specs.Step.{replay};
 ghost use Rattle.swh_walk.specs.declared.input.Opening.TheVariants.{Found};
 ghost use Rattle.swh_walk.specs.Loading.{statuses_of};
@@ -14,10 +15,10 @@ ghost use Rattle.swh_walk.specs.Owning.{attempt};
 ghost use Rattle.swh_alone.specs.Alone.{AddsOn, alone_words};
 ghost use Rattle.swh_alone.specs.Loading.{AddsVisit, EndsVisit, IsHeldBack, MakesVisitCalls, NoCountFell, Stops};
 
-use crate::keeping::{carry_out, certificate_in, standing_in};
+use crate::keeping::{body_in, carry_out, certificate_in, standing_in};
 use crate::seat::Alone;
 use std::alloc::Global;
-use swh_base::{Entry, Memory, Name, Namer};
+use swh_base::{Entry, Memory, Name, Namer, Shared};
 use swh_closure::Cert;
 use swh_keeper::Keeper;
 use swh_model::Outcome;
@@ -73,6 +74,11 @@ pub fn load_kept_parts<N: Namer, D: Disk, I, B: Drop, R: ReadsParts<I, Next<N, B
             ensures looks { AddsOn N.id_of (disks D.tells D.file D.faults) [] keeper.old keeper.new }
             ensures standing { IfOk result (IsStanding (replay keeper.new.history).bodies entry.now) }
         { Ok(standing_in(keeper, entry)) },
+        body: |keeper: &mut Keeper<N, D>, name: &Name| -> Option<Shared<u8>>
+            requires { keeper.old.wounded ≡ None }
+            ensures looks { AddsOn N.id_of (disks D.tells D.file D.faults) [] keeper.old keeper.new }
+            ensures held { IfSome result (λ body. body_of (replay keeper.new.history).bodies name.now ≡ Some body) }
+        { body_in(keeper, name) },
         certify: |keeper: &mut Keeper<N, D>, root: [u8; 20], names: Vec<Name>| -> Result<
             Cert,
             Memory,

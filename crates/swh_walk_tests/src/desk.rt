@@ -6,8 +6,8 @@ ghost use Rattle.swh_walk_tests.specs.Shared.{shared_lawful};
 
 use std::alloc::Global;
 use std::collections::VecDeque;
-use swh_alone::{carry_out, certificate_in, standing_in};
-use swh_base::{ByteNamer, Entry, Memory, Name};
+use swh_alone::{body_in, carry_out, certificate_in, standing_in};
+use swh_base::{ByteNamer, Entry, Memory, Name, Shared};
 use swh_closure::Cert;
 use swh_fixtures::Archive;
 use swh_model::Outcome;
@@ -45,6 +45,10 @@ impl Place<Plan<ByteNamer>, Desk> for Second {
 
     fn standing(&self, desk: &mut Desk, entry: &Entry) -> Result<Standing, Memory> {
         Ok(standing_in(&mut desk.keeper, entry))
+    }
+
+    fn body(&self, desk: &mut Desk, name: &Name) -> Option<Shared<u8>> {
+        body_in(&mut desk.keeper, name)
     }
 
     fn certify(

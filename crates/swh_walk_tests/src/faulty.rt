@@ -1,12 +1,13 @@
-// What is held of an input that turns out to be bad behind some parts.
+// What is held of an input that turns out to be bad behind some parts, and what it is to share with the archive.
 ghost use Rattle.std.specs.Prelude.{◌≡◌};
 
 use crate::desk::{Desk, Second};
-use crate::walks::{content_of, objects_in};
+use crate::walks::{content_of, contents, objects_in};
 use std::alloc::{AllocError, Global};
 use std::collections::VecDeque;
+use std::marker::Model;
 use std::test::Fail;
-use swh_base::{ByteNamer, Memory, Url, VisitKind};
+use swh_base::{ByteNamer, Memory, Name, Shared, Url, VisitKind};
 use swh_fixtures::{Archive, URL, disk, kept};
 use swh_keeper::{Keeper, OpenWhy};
 use swh_memory::{MemoryDisk, Room};
@@ -16,50 +17,91 @@ use swh_place::Place;
 use swh_plan::Plan;
 use swh_walk::{End, Job, Next, Opening, ReadsParts, Turn, Worker, load_parts};
 
-// Parts that come in their order, and then a fault.
-type Parts = VecDeque<Vec<Object<ByteNamer>>>;
+// Parts that come in their order, and then a fault, and how many bytes the bodies have that are to be shared. Contracts see
+// how many parts are left.
+#[derive(Drop)]
+struct Parts {
+    left: VecDeque<Vec<Object<ByteNamer>>>,
+    shared: usize,
+}
+
+impl Model for Parts {
+    ghost use Rattle.std.specs.Prelude.{ℕ, length};
+
+    ghost Value = { ℕ };
+
+    ghost view = { λ p. length p.left.items };
+}
 
 // The way to read them.
 #[derive(Clone, Copy, Debug)]
 struct Faulty;
 
 impl ReadsParts<Parts, Next<ByteNamer, ()>> for Faulty {
-    ghost use Rattle.std.specs.Prelude.{length};
     ghost use Rattle.swh_walk_tests.specs.Faulty.{NeverEnds};
 
     ghost takes = { λ r i. Unit {0} };
 
     ghost gives = { λ r i x now. NeverEnds x };
 
-    ghost left = { λ r i. length i.items };
+    ghost left = { λ r i. i };
 
     fn next(&self, parts: &mut Parts) -> Result<Next<ByteNamer, ()>, Memory> {
-        match parts.pop_front() {
+        match parts.left.pop_front() {
             Some(objects) => Ok(Next::Part(objects)),
             None => Ok(Next::Bad(())),
         }
     }
+
+    fn share(&self, parts: &mut Parts, _name: &Name, body: Shared<u8>) {
+        parts.shared = parts.shared.saturating_add(body.as_slice().len());
+    }
 }
 
-// How many bytes the first body has, and how many objects are held of it and of the two that come behind it.
+// The bodies that loader 1 holds before anything is read, how many bytes the first body has, how many objects are sent of it
+// and of the two that come behind it, and how many bytes the bodies have that are to be shared.
 #[derive(Clone, Copy)]
-struct Case {
+struct Case<'a> {
+    others: &'a [&'a [u8]],
     first: usize,
     sent: usize,
+    shared: usize,
 }
 
-const CASES: &[Case] = &[
-    // Nothing is full, so nothing is sent.
-    Case { first: 1, sent: 0 },
+const CASES: &[Case<'static>] = &[
+    // Nothing is full, so nothing is sent; nothing is held, so nothing is shared.
+    Case {
+        others: &[],
+        first: 1,
+        sent: 0,
+        shared: 0,
+    },
     // With one more the batch is full.
     Case {
+        others: &[],
         first: 8_388_608,
         sent: 2,
+        shared: 0,
     },
     // The batch is full of one.
     Case {
+        others: &[],
         first: 8_388_609,
         sent: 1,
+        shared: 0,
+    },
+    // What is held is shared, and is not sent.
+    Case {
+        others: &[b"abc"],
+        first: 1,
+        sent: 0,
+        shared: 3,
+    },
+    Case {
+        others: &[b"abc", b"d"],
+        first: 1,
+        sent: 0,
+        shared: 4,
     },
 ];
 
@@ -76,9 +118,10 @@ fn parts_of(alloc: Global, bytes: usize) -> Result<Parts, AllocError> {
     let mut first = Vec::with_capacity(alloc, 1)?;
     first.push(content_of(alloc, Vec::from_elem(alloc, 0, bytes)?)?)?;
     parts.push(first)?;
-    parts.push(part(alloc, b"ab")?)?;
-    parts.push(part(alloc, b"cd")?)?;
-    Ok(VecDeque::from_vec(parts))
+    parts.push(part(alloc, b"abc")?)?;
+    parts.push(part(alloc, b"d")?)?;
+    let left = VecDeque::from_vec(parts);
+    Ok(Parts { left, shared: 0 })
 }
 
 // Says whether a load of them is told to be bad.
@@ -87,7 +130,7 @@ fn is_bad<S, P: Place<Plan<ByteNamer>, S>>(
     place: &P,
     desk: &mut S,
     origin: &Url,
-    parts: Parts,
+    parts: &mut Parts,
 ) -> bool
     requires fits { P.fits place.now }
     requires number { ((P.words place.now).known desk.old).number ≡ 2 }
@@ -108,8 +151,7 @@ fn is_bad<S, P: Place<Plan<ByteNamer>, S>>(
         opening: Opening::Found,
         read: Faulty,
     };
-    let mut parts = parts;
-    match load_parts(alloc, place, desk, &turn, &job, &mut parts) {
+    match load_parts(alloc, place, desk, &turn, &job, parts) {
         Ok(loaded) => loaded.end == End::Bad(()),
         Err(_) => false,
     }
@@ -129,24 +171,24 @@ fn roomy_archive(alloc: Global) -> Result<Archive<ByteNamer>, OpenWhy> {
 }
 
 // Says whether a case comes out, over an archive of its own.
-fn comes_out(alloc: Global, case: Case) -> Result<bool, AllocError> {
-    let parts = parts_of(alloc, case.first)?;
+fn comes_out(alloc: Global, case: Case<'_>) -> Result<bool, AllocError> {
+    let mut parts = parts_of(alloc, case.first)?;
     let Ok(origin) = Url::new(alloc, URL) else {
         return Ok(false);
     };
     let Ok(keeper) = roomy_archive(alloc) else {
         return Ok(false);
     };
-    let others = VecDeque::from_vec(Vec::new(alloc));
+    let others = contents(alloc, case.others)?;
     let mut desk = Desk { keeper, others };
-    let bad = is_bad::<Desk, Second>(alloc, &Second, &mut desk, &origin, parts);
+    let bad = is_bad::<Desk, Second>(alloc, &Second, &mut desk, &origin, &mut parts);
     let Desk {
         keeper,
         others: _others,
     } = desk;
     let sent = objects_in(keeper.history());
     let (_store, _ledger) = keeper.close();
-    Ok(bad && sent == case.sent)
+    Ok(bad && sent == case.sent && parts.shared == case.shared)
 }
 
 #[test]

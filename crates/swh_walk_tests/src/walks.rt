@@ -128,7 +128,7 @@ fn content(alloc: Global, body: &[u8]) -> Result<Plan<ByteNamer>, AllocError> {
 }
 
 // Each of these bodies as a plan.
-fn contents(alloc: Global, bodies: &[&[u8]]) -> Result<VecDeque<Plan<ByteNamer>>, AllocError> {
+pub fn contents(alloc: Global, bodies: &[&[u8]]) -> Result<VecDeque<Plan<ByteNamer>>, AllocError> {
     let mut plans = Vec::with_capacity(alloc, bodies.len())?;
     for body in bodies {
         plans.push(content(alloc, body)?)?;

@@ -45,6 +45,8 @@ pub load_parts-requires-clause-fits : goal.load_parts-requires-clause-fits
 load_parts-requires-clause-fits g c κs within = (
   λ s e ready. search rules,
   λ s e r t ready post. record { looks = post.0; standing = post.1 },
+  λ s name ready. search rules,
+  λ s name r t ready post. record { looks = post.0; held = post.1 },
   λ s snapshot names may. let ready = may.ready in search rules,
   λ s snapshot names r t may post. record { looks = post.2.0; root = post.2.1 },
   λ s plan. search rules,
