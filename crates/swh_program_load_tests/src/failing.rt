@@ -2,7 +2,7 @@
 use crate::worked::{MODES, OBJECTS, PARTS, REFS, TWO};
 use Laid::{Broken, Bytes, List};
 use What::File;
-use std::alloc::{AllocError, Global};
+use std::alloc::Global;
 use std::test::Fail;
 use swh_outside::What;
 use swh_program_fixtures::{Case, INIT, LOAD, LOADING, Laid, Piece, Setting, all_met, is_met};
@@ -171,101 +171,131 @@ fn parts_that_fail(rt: HostRuntime) -> Result<(), Fail> {
     all_met(rt.alloc(), FAILING)
 }
 
-/// What is loaded where a part stands at `e`, how many calls its reading takes, and what is printed where one of them fails
-/// and where none does.
+// A load of which a call on the input at `e` fails, of these numbers from 0, and what is printed.
 #[derive(Clone, Copy)]
-struct Part {
-    name: &'static str,
-    setting: Setting<'static>,
-    calls: u64,
-    broken: &'static [u8],
-    whole: &'static [u8],
+struct Breaks<'a> {
+    name: &'a str,
+    setting: Setting<'a>,
+    from: u64,
+    until: u64,
+    statuses: &'a [u8],
+    printed: &'a [u8],
 }
 
-/// A source gives seven bytes at a call, and then that nothing is left: the listing has 20 bytes, the batch 327, its refs 57,
-/// and the stream 138.
-const READ: &[Part] = &[
-    Part {
-        name: "a listing",
+// The row of one failing call.
+fn case_of<'a>(breaks: &Breaks<'a>, call: u64) -> Case<'a> {
+    Case {
+        name: breaks.name,
         setting: Setting {
-            jobs: Some(&[Piece::Text(
-                b"dir\thttps://e.org/d\td\te\nbatch\thttps://e.org/b\tb\tr\n",
-            )]),
-            input: Some(MODES),
-            ..PARTS
-        },
-        calls: 4,
-        broken: FOLDER_READ,
-        whole: BOTH_FULL,
-    },
-    Part {
-        name: "a batch",
-        setting: Setting {
-            jobs: Some(&[Piece::Text(
-                b"dir\thttps://e.org/d\td\tm\nbatch\thttps://e.org/b\te\tr\n",
-            )]),
-            input: Some(OBJECTS),
-            ..PARTS
-        },
-        calls: 48,
-        broken: BATCH_READ,
-        whole: BOTH_FULL,
-    },
-    Part {
-        name: "refs",
-        setting: Setting {
-            jobs: Some(&[Piece::Text(
-                b"dir\thttps://e.org/d\td\tm\nbatch\thttps://e.org/b\tb\te\n",
-            )]),
-            input: Some(REFS),
-            ..PARTS
-        },
-        calls: 10,
-        broken: BATCH_READ,
-        whole: BOTH_FULL,
-    },
-    Part {
-        name: "a stream",
-        setting: LOADING,
-        calls: 21,
-        broken: b"made\nhttps://e.org/p\t1\tfailed\tread\n",
-        whole: b"made\nhttps://e.org/p\t1\tfull\tswh:1:snp:5036c2b4a676f9dad60fbaed431ca21ecdec56ff\n",
-    },
-];
-
-// Says whether a load in which the call of a part with this number fails ends as it is to.
-fn ends_so(alloc: Global, part: Part, number: u64) -> Result<bool, AllocError> {
-    let fails = number < part.calls;
-    let case = Case {
-        name: part.name,
-        setting: Setting {
-            input_fails: Some(number),
-            ..part.setting
+            input_fails: Some(call),
+            ..breaks.setting
         },
         runs: &[INIT, LOAD],
-        statuses: if fails { &[0, 1] } else { &[0, 0] },
-        printed: if fails { part.broken } else { part.whole },
+        statuses: breaks.statuses,
+        printed: breaks.printed,
         leaves: None,
-    };
-    is_met(alloc, &case)
-}
-
-// Says whether each call of a part ends its load as it is to. The call behind the last is none, and fails in vain.
-fn each_call_ends_so(alloc: Global, part: Part) -> Result<bool, AllocError> {
-    for number in 0..part.calls {
-        if !ends_so(alloc, part, number)? {
-            return Ok(false);
-        }
     }
-    ends_so(alloc, part, part.calls)
 }
 
-#[test]
-fn calls_of_parts_that_fail(rt: HostRuntime) -> Result<(), Fail> {
-    for part in READ {
-        if !each_call_ends_so(rt.alloc(), *part)? {
-            return Err(Fail::new(part.name));
+fn all_break(alloc: Global, rows: &[Breaks<'_>]) -> Result<(), Fail> {
+    for breaks in rows {
+        for call in breaks.from..breaks.until {
+            if !is_met(alloc, &case_of(breaks, call))? {
+                return Err(Fail::new(format_args!("{} {call}", breaks.name)));
+            }
         }
     }
     Ok(())
+}
+
+const LISTING: Setting<'static> = Setting {
+    jobs: Some(&[Piece::Text(b"dir\thttps://e.org/d\td\te\nbatch\thttps://e.org/b\tb\tr\n")]),
+    input: Some(MODES),
+    ..PARTS
+};
+
+const BATCH: Setting<'static> = Setting {
+    jobs: Some(&[Piece::Text(b"dir\thttps://e.org/d\td\tm\nbatch\thttps://e.org/b\te\tr\n")]),
+    input: Some(OBJECTS),
+    ..PARTS
+};
+
+const REFS_OF_BATCH: Setting<'static> = Setting {
+    jobs: Some(&[Piece::Text(b"dir\thttps://e.org/d\td\tm\nbatch\thttps://e.org/b\tb\te\n")]),
+    input: Some(REFS),
+    ..PARTS
+};
+
+// A source gives seven bytes at a call, and then that nothing is left: the listing has 20 bytes, the batch 327, its refs 57,
+// and the stream 138. The call behind these is none, and fails in vain.
+const BREAKS: &[Breaks<'static>] = &[
+    Breaks {
+        name: "a listing",
+        setting: LISTING,
+        from: 0,
+        until: 4,
+        statuses: &[0, 1],
+        printed: FOLDER_READ,
+    },
+    Breaks {
+        name: "behind a listing",
+        setting: LISTING,
+        from: 4,
+        until: 5,
+        statuses: &[0, 0],
+        printed: BOTH_FULL,
+    },
+    Breaks {
+        name: "a batch",
+        setting: BATCH,
+        from: 0,
+        until: 48,
+        statuses: &[0, 1],
+        printed: BATCH_READ,
+    },
+    Breaks {
+        name: "behind a batch",
+        setting: BATCH,
+        from: 48,
+        until: 49,
+        statuses: &[0, 0],
+        printed: BOTH_FULL,
+    },
+    Breaks {
+        name: "refs",
+        setting: REFS_OF_BATCH,
+        from: 0,
+        until: 10,
+        statuses: &[0, 1],
+        printed: BATCH_READ,
+    },
+    Breaks {
+        name: "behind refs",
+        setting: REFS_OF_BATCH,
+        from: 10,
+        until: 11,
+        statuses: &[0, 0],
+        printed: BOTH_FULL,
+    },
+    Breaks {
+        name: "a stream",
+        setting: LOADING,
+        from: 0,
+        until: 21,
+        statuses: &[0, 1],
+        printed: b"made\nhttps://e.org/p\t1\tfailed\tread\n",
+    },
+    Breaks {
+        name: "behind a stream",
+        setting: LOADING,
+        from: 21,
+        until: 22,
+        statuses: &[0, 0],
+        printed: b"made\nhttps://e.org/p\t1\tfull\tswh:1:snp:5036c2b4a676f9dad60fbaed431ca21ecdec56ff\n",
+    },
+];
+
+#[test]
+fn each_call_of_a_part_fails(rt: HostRuntime) -> Result<(), Fail> {
+    all_break(rt.alloc(), BREAKS)
 }
