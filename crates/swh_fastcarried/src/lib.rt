@@ -20,6 +20,5 @@ pub use branches::{have_odd_branch, is_at_own_branch};
 pub use directories::have_dots;
 pub use first::first_uncarried;
 pub use folders::folders_of;
-pub use plain::{first_odd_object, is_odd_release, is_odd_revision};
 pub use tagged::tagged_of;
 pub use ways::ways_of;

@@ -31,5 +31,5 @@ pub use loaded::loads_many;
 pub use marks::Marks;
 pub use objects::write_objects;
 pub use ready::{Ready, make_ready};
-pub use stream::{write_order, write_stream};
+pub use stream::write_stream;
 pub use tips::write_tips;

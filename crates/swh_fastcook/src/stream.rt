@@ -1,7 +1,6 @@
 //! A whole stream.
 ghost use Rattle.std.specs.Prelude.{◌≡◌, ℕ, List, OnOk, OnErr, Contains};
 ghost use Rattle.swh_base.specs.declared.name.Name.{Name as Named};
-ghost use Rattle.swh_carried.specs.Uncarried.{HasNoCycle};
 ghost use Rattle.swh_postorder.specs.Cycle.{ArePreceded};
 ghost use Rattle.swh_postorder.specs.Postorder.{IsPostorder};
 ghost use Rattle.swh_fastcarried.specs.Rules.{IsOddObject};
@@ -62,26 +61,4 @@ pub fn write_stream<L: Look, T: Taker>(
     write_all(alloc, look, marks, root, taker, &mut held)?;
     flush(taker, &mut held)?;
     Ok(())
-}
-
-/// Writes the stream of the names that are reached from the root, of which none is reached from itself. A failure leaves a
-/// front of it taken.
-pub fn write_order<L: Look, T: Taker>(
-    alloc: Global,
-    look: &L,
-    order: Vec<Name>,
-    root: Name,
-    taker: &mut T,
-) -> Result<(), CookFault>
-    requires order { IsPostorder (L.children_of look.now) root order.items }
-    requires acyclic { HasNoCycle (L.children_of look.now) order.items }
-    requires plain { (n : Named) → Contains order.items n → IsOddObject (L.archive look.now).bodies n → ⊥ }
-    ensures ok { OnOk result ((text : List ℕ) × IsStreamText (L.archive look.now).bodies order.items root text
-        × T.takes taker.old text taker.new) }
-    ensures err { OnErr result ((text : List ℕ) → IsStreamText (L.archive look.now).bodies order.items root text
-        → T.takes_front taker.old text taker.new) }
-    ensures cause { HasWriteCause (T.failures taker.old) (T.failures taker.new) result }
-{
-    let marks = Marks::new(alloc, order)?;
-    write_stream(alloc, look, &marks, root, taker)
 }
