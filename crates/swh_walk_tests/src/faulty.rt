@@ -173,13 +173,13 @@ fn roomy_archive(alloc: Global) -> Result<Archive<ByteNamer>, OpenWhy> {
 // Says whether a case comes out, over an archive of its own.
 fn comes_out(alloc: Global, case: Case<'_>) -> Result<bool, AllocError> {
     let mut parts = parts_of(alloc, case.first)?;
+    let others = contents(alloc, case.others)?;
     let Ok(origin) = Url::new(alloc, URL) else {
         return Ok(false);
     };
     let Ok(keeper) = roomy_archive(alloc) else {
         return Ok(false);
     };
-    let others = contents(alloc, case.others)?;
     let mut desk = Desk { keeper, others };
     let bad = is_bad::<Desk, Second>(alloc, &Second, &mut desk, &origin, &mut parts);
     let Desk {
