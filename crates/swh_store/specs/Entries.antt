@@ -1,6 +1,7 @@
 -- Entries in memory, in the order of their adding, and the place of each by its name's key.
-use Rattle.std.specs.Prelude.{◌≡◌, ◌<◌, ◌+◌, ◌*◌, ◌%◌, ◌^◌, ℕ, Bool, true, cond, Contains, Option, Some, None, List, [], ◌∷◌, ◌++◌, length, get_or, slice_index_or, unwrap_or}
+use Rattle.std.specs.Prelude.{◌≡◌, ◌<◌, ◌+◌, ◌*◌, ◌%◌, ◌/◌, ◌-◌, ◌^◌, ℕ, Bool, true, eqb, cond, Contains, Option, Some, None, List, [], ◌∷◌, ◌++◌, length, get_or, slice_index_or, unwrap_or}
 use Rattle.std.specs.List.{fold}
+use Rattle.std.specs.Int.{bit_at}
 use Rattle.std.specs.declared.cmp.Ordering.{Ordering}
 use Rattle.std.specs.Ordering.{nat_cmp}
 use Rattle.std.specs.Cmp.Lexicographic.{slice_cmp}
@@ -56,12 +57,16 @@ with_byte number byte = ((number * 256) % 2 ^ 64 + byte) % 2 ^ 64
 abbrev pub mark_of : Name → ℕ
 mark_of n = fold with_byte 0 n.id % 2 ^ 20
 
+-- whether the mark of a number is set, of which a word has 64; each is where there is no word
+unfoldable pub is_set : List ℕ → ℕ → Bool
+is_set words number = eqb (bit_at (slice_index_or words (number / 64) (2 ^ 64 - 1)) (number % 64)) 1
+
 -- whether a name may be held, by its mark, where it has one
-abbrev pub may_hold : List Bool → Name → Bool
-may_hold marks n = slice_index_or marks (mark_of n) true
+abbrev pub may_hold : List ℕ → Name → Bool
+may_hold marks n = is_set marks (mark_of n)
 
 -- The name of each entry may be held.
-abbrev pub AreMarked : List Bool → List Entry → Type 0
+abbrev pub AreMarked : List ℕ → List Entry → Type 0
 AreMarked marks es = (e : Entry) → Contains es e → may_hold marks e.name ≡ true
 
 -- The places are those of the entries, and the marks are set for their names.

@@ -10,7 +10,7 @@ use swh_model::kind_byte;
 #[derive(Drop)]
 pub struct Held {
     pub places: BTreeMap<[u8; 21], usize>,
-    pub marks: Vec<bool>,
+    pub marks: Vec<u64>,
     pub entries: Vec<Entry>,
 }
 
