@@ -26,7 +26,7 @@ from verdict import Verdict
 
 LEAST_OF_SUM = 0.45
 MOST_TIMES = 12
-ROUNDS = 3
+ROUNDS = 5
 SMALL = (9_800, 98_000)
 
 
@@ -91,13 +91,14 @@ def time_unpack(scratch, pack):
 
 
 def measure(program, scratch, name, commits, verdict):
-    """The best of some rounds: seconds of load, sum and unpacking."""
+    """The best of some rounds, in turn: seconds of load and sum; and those of unpacking."""
     bare, batch, refs = make_batch(scratch, name, commits)
     pack = os.path.join(scratch, name + ".pack")
     make_pack(bare, pack)
-    loads = [load(program, scratch, batch, refs) for _ in range(ROUNDS)]
+    rounds = [(load(program, scratch, batch, refs), time_sum(batch)) for _ in range(ROUNDS)]
+    loads = [one for one, _ in rounds]
     took = min(one[0] for one in loads)
-    summed = min(time_sum(batch) for _ in range(ROUNDS))
+    summed = min(one for _, one in rounds)
     unpacked = time_unpack(scratch, pack)
     print("%-8s %9d bytes: swharc %7.3f s, peak %d bytes; sha1sum %7.3f s (%.2f of its rate), git unpack-objects %7.3f s"
           % (name, os.path.getsize(batch), took, min(one[1] for one in loads), summed, summed / took, unpacked))

@@ -21,7 +21,7 @@ SIZES = (10_000, 100_000)
 FILE_BYTES = 100
 MOST_TIMES = 12
 LEAST_OF_IMPORT = 60
-ROUNDS = 3
+ROUNDS = 5
 
 
 def stream_of(count):
