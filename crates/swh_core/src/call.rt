@@ -37,7 +37,7 @@ fn packed(alloc: Global, what: &EventKind) -> Result<Vec<u8>, Memory>
     ensures { IfOk result (λ run. run.items ≡ packed_objects what.now) }
 {
     match what {
-        EventKind::Batch(entries) => run_of_entries(alloc, entries.as_slice()),
+        EventKind::Batch(entries) => run_of_entries(Vec::new(alloc), entries.as_slice()),
         _ => Ok(Vec::new(alloc)),
     }
 }

@@ -3,7 +3,6 @@ ghost use Rattle.std.specs.Prelude.{◌≡◌, ◌++◌, IfOk, OnOk, length};
 ghost use Rattle.std.specs.List.{AllByRecursion};
 ghost use Rattle.swh_format.specs.StoredObject.{coded_entry, coded_run, IsCodableEntry};
 
-use std::alloc::Global;
 use swh_base::{Entry, Memory};
 use swh_model::kind_byte;
 
@@ -19,7 +18,7 @@ fn push_entry(bytes: &mut Vec<u8>, entry: &Entry) -> Result<(), Memory>
     Ok(())
 }
 
-/// The room of a run is a whole number of these. Where nothing so large is free, the C library maps it alone (glibc from 32
+/// The room that is taken for a run is a whole number of these. Where nothing so large is free, the C library maps it alone (glibc from 32
 /// MiB on) and gives it back whole, so that nothing small comes to stand where a run was and the next wants new room. Of a
 /// mapping only what is written takes memory.
 const ROOM: usize = 33 << 20;
@@ -35,16 +34,19 @@ fn room_of(entries: &[Entry]) -> usize {
     (bytes.saturating_add(ROOM - 1) / ROOM).saturating_mul(ROOM)
 }
 
-/// The run of a batch: its objects, one after another; `Memory` where there is none. Its room is taken once: a run may have
-/// millions of bytes, which would be held twice while it grows.
-pub fn run_of_entries(alloc: Global, entries: &[Entry]) -> Result<Vec<u8>, Memory>
+/// The run of a batch: its objects, one after another; `Memory` where there is none. It is written in the room that is given,
+/// of which nothing is kept but the room. What that lacks is taken once: a run may have millions of bytes, which would be
+/// held twice while it grows.
+pub fn run_of_entries(room: Vec<u8>, entries: &[Entry]) -> Result<Vec<u8>, Memory>
     ensures { IfOk result (λ bytes. bytes.items ≡ coded_run entries.now) }
 {
-    let mut bytes = Vec::with_capacity(alloc, room_of(entries))?;
+    let mut run = room;
+    run.clear();
+    run.reserve_exact(room_of(entries))?;
     for entry in entries {
-        push_entry(&mut bytes, entry)?;
+        push_entry(&mut run, entry)?;
     }
-    Ok(bytes)
+    Ok(run)
 }
 
 /// An id has twenty bytes.

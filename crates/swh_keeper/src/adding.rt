@@ -1,5 +1,5 @@
 //! A planned event: carried out in memory, then on both disks.
-ghost use Rattle.std.specs.Prelude.{◌≡◌, ◌++◌, ◌∷◌, [], OnOk, OnErr, IfOk, IsErrOf};
+ghost use Rattle.std.specs.Prelude.{◌≡◌, ◌++◌, ◌∷◌, [], OnOk, OnErr, IsErrOf};
 ghost use Rattle.swh_outside.specs.Files.{EachImages, FilesBreaks, files_of, files_done};
 ghost use Rattle.swh_segment.specs.Calls.{event_calls};
 ghost use Rattle.swh_model.specs.declared.event.Event.{Event};
@@ -14,7 +14,7 @@ ghost use Rattle.swh_keeper.specs.declared.adding.AddFault.TheVariants.{Disk as 
 use crate::writing::write_event;
 use std::alloc::{AllocError, Global};
 use swh_base::Memory;
-use swh_model::{Event, Outcome};
+use swh_model::Event;
 use swh_outside::Disk;
 use swh_plan::Planned;
 use swh_replay::{Replayed, advance};
@@ -42,7 +42,7 @@ impl From<Memory> for AddFault {
     }
 }
 
-/// Adds an event. Each growth is made before the first device call.
+/// Adds an event, and gives the vector of its run back. Each growth is made before the first device call.
 pub fn add_event<D: Disk>(
     alloc: Global,
     store: &mut Runs<D>,
@@ -50,7 +50,7 @@ pub fn add_event<D: Disk>(
     replayed: &mut Replayed,
     history: &mut Vec<Event>,
     planned: Planned,
-) -> Result<Outcome, AddFault>
+) -> Result<Vec<u8>, AddFault>
     requires replay { IsReplayOf replayed.old history.old.items }
     requires may { MayAdvance replayed.old planned.event.what }
     requires to_add { IsToAdd replayed.old history.old.items planned.event planned.run.items planned.bytes.items }
@@ -59,7 +59,6 @@ pub fn add_event<D: Disk>(
     requires settled { D.tells → AreSettledFor (D.file ledger.old.disk)
         (D.file store.old.disk) history.old.items replayed.old.store_end replayed.old.ledger_end }
 
-    ensures outcome { IfOk result (λ outcome. outcome ≡ planned.outcome) }
     ensures added { OnOk result (IsAdded history.old.items planned.event history.new.items replayed.new) }
     ensures settled { D.tells → OnOk result (AreSettledFor (D.file ledger.new.disk) (D.file store.new.disk)
         (history.old.items ++ planned.event ∷ []) replayed.new.store_end replayed.new.ledger_end) }
@@ -87,7 +86,7 @@ pub fn add_event<D: Disk>(
 {
     let Planned {
         event,
-        outcome,
+        outcome: _outcome,
         run,
         bytes,
     } = planned;
@@ -99,7 +98,7 @@ pub fn add_event<D: Disk>(
     replayed.store_end += run.as_slice().len() as u64;
     replayed.ledger_end += bytes.as_slice().len() as u64;
     match history.push(event) {
-        Ok(()) => Ok(outcome),
+        Ok(()) => Ok(run),
         Err(_) => unreachable!(),
     }
 }

@@ -6,6 +6,7 @@ use crate::opening::{OpenFault, OpenWhy, Opened, open_archive, why_not_made};
 use crate::stored::{StoredFault, read_bytes};
 use std::alloc::Global;
 use std::marker::Model;
+use std::mem;
 use swh_base::{Name, Namer, Url};
 use swh_model::{Event, Outcome, Visit};
 use swh_outside::Disk;
@@ -23,6 +24,8 @@ pub struct Keeper<N: Namer, D: Disk> {
     replayed: Replayed,
     history: Vec<Event>,
     wounded: Option<u64>,
+    /// The vector of the last run, in whose room the next one is written.
+    room: Vec<u8>,
 }
 
 impl<N: Namer, D: Disk> Model for Keeper<N, D> {
@@ -140,6 +143,7 @@ impl<N: Namer, D: Disk> Keeper<N, D> {
                     replayed: Replayed::new(alloc),
                     history: Vec::new(alloc),
                     wounded: None,
+                    room: Vec::new(alloc),
                 })
             }
             Err(back) => {
@@ -213,6 +217,7 @@ impl<N: Namer, D: Disk> Keeper<N, D> {
                     replayed,
                     history,
                     wounded: None,
+                    room: Vec::new(alloc),
                 })
             }
             Err(why) => Err(OpenFault { why, store, ledger }),
@@ -309,6 +314,7 @@ impl<N: Namer, D: Disk> Keeper<N, D> {
             replayed: _replayed,
             history: _history,
             wounded: _wounded,
+            room: _room,
         } = self;
         (store.close(), ledger.close())
     }
@@ -343,10 +349,12 @@ impl<N: Namer, D: Disk> Keeper<N, D> {
             return Err(Refusal::Wounded { first });
         }
         let number = self.history.as_slice().len() as u64 + 1;
-        let planned = match judge_plan(self.alloc, &self.replayed, number, by, plan) {
+        let room = mem::replace(&mut self.room, Vec::new(self.alloc));
+        let planned = match judge_plan(self.alloc, &self.replayed, number, by, plan, room) {
             Ok(planned) => planned,
             Err(fault) => return Err(refusal_for(fault)),
         };
+        let outcome = planned.outcome;
         let added = add_event(
             self.alloc,
             &mut self.store,
@@ -356,7 +364,10 @@ impl<N: Namer, D: Disk> Keeper<N, D> {
             planned,
         );
         let fault = match added {
-            Ok(outcome) => return Ok(outcome),
+            Ok(run) => {
+                self.room = run;
+                return Ok(outcome);
+            }
             Err(fault) => fault,
         };
         match fault {

@@ -113,13 +113,15 @@ fn plan_open(
     })
 }
 
-/// The event that adds those of these entries that are not held, or the first cause against it.
+/// The event that adds those of these entries that are not held, or the first cause against it. Its run is written in the
+/// room that is given.
 fn plan_entries(
     alloc: Global,
     replayed: &Replayed,
     number: u64,
     by: u32,
     entries: &[Entry],
+    room: Vec<u8>,
 ) -> Result<Planned, PlanFault>
     requires in_files { IsInFiles replayed.now }
     requires good { AllByRecursion HasItsChildren entries.now }
@@ -134,7 +136,7 @@ fn plan_entries(
     let Split { fresh, collision } = split;
     entries_are_codable(&fresh);
     let new = fresh.as_slice().len() as u32;
-    let run = run_of_entries(alloc, &fresh)?;
+    let run = run_of_entries(room, &fresh)?;
     let event = Event {
         by,
         what: EventKind::Batch(Items::from_vec(fresh)),
@@ -158,6 +160,7 @@ fn plan_batch<N: Namer>(
     number: u64,
     by: u32,
     objects: Vec<Object<N>>,
+    room: Vec<u8>,
 ) -> Result<Planned, PlanFault>
     requires { IsInFiles replayed.now }
     ensures ok { (h : List Event) → IsReplayOf replayed.now h → number ≡ length h + 1
@@ -166,7 +169,7 @@ fn plan_batch<N: Namer>(
     ensures err { (h : List Event) → IsReplayOf replayed.now h → IfErr result (IsRefusedPlan h by (Batch objects.items)) }
 {
     let entries = entries_of(alloc, objects)?;
-    plan_entries(alloc, replayed, number, by, &entries)
+    plan_entries(alloc, replayed, number, by, &entries, room)
 }
 
 /// Marks a visit. What is reached from the snapshot is looked at where nothing else is against the plan.
@@ -214,13 +217,15 @@ fn plan_mark(
     })
 }
 
-/// The event of a plan with its bytes, or the first cause against the plan.
+/// The event of a plan with its bytes, or the first cause against the plan. A batch's run is written in the room that is
+/// given; of another plan that room is freed.
 pub fn judge_plan<N: Namer>(
     alloc: Global,
     replayed: &Replayed,
     number: u64,
     by: u32,
     plan: Plan<N>,
+    room: Vec<u8>,
 ) -> Result<Planned, PlanFault>
     requires { IsInFiles replayed.now }
     ensures ok { (h : List Event) → IsReplayOf replayed.now h → number ≡ length h + 1
@@ -229,7 +234,7 @@ pub fn judge_plan<N: Namer>(
     ensures err { (h : List Event) → IsReplayOf replayed.now h → IfErr result (IsRefusedPlan h by (wish_of plan)) }
 {
     match plan {
-        Plan::Batch(objects) => plan_batch(alloc, replayed, number, by, objects),
+        Plan::Batch(objects) => plan_batch(alloc, replayed, number, by, objects, room),
         Plan::Open { origin, kind, date } => {
             plan_open(alloc, replayed, number, by, origin, kind, date)
         }

@@ -49,7 +49,7 @@ fn a_batch_is_made_again(rt: HostRuntime) -> Result<(), Fail> {
     let EventKind::Batch(copies) = (Event { by: 1, what }).again(alloc)?.what else {
         return Err(Fail::from("a batch"));
     };
-    let bytes = run_of_entries(alloc, copies.as_slice())?;
+    let bytes = run_of_entries(Vec::new(alloc), copies.as_slice())?;
     assert_eq!(rt; bytes.as_slice(), STORE.as_slice());
     Ok(())
 }
@@ -57,7 +57,7 @@ fn a_batch_is_made_again(rt: HostRuntime) -> Result<(), Fail> {
 #[test]
 fn a_run_has_kind_length_id_and_body(rt: HostRuntime) -> Result<(), Fail> {
     let alloc = rt.alloc();
-    let bytes = run_of_entries(alloc, &[content(alloc)?])?;
+    let bytes = run_of_entries(Vec::new(alloc), &[content(alloc)?])?;
     assert_eq!(rt; bytes.len(), 31);
     assert_eq!(rt; &bytes[..9], b"\x01\0\0\0\0\0\0\0\x02".as_slice());
     assert_eq!(rt; &bytes[29..], b"hi".as_slice());

@@ -17,8 +17,8 @@ add_event-added-requires-clause-may g c κs within =
     may_advance g.N.Namer.id_of k.replayed k.history.items c.in-Ok.planned.event is
     (may_of_plan g.N.Namer.id_of k.history.items c.args.by (wish_of c.args.plan) c.in-Ok.planned.event c.in-Ok.planned.outcome c.in-Ok.ensures.good planned.verdict)
 
-pub invariant_of-self : goal.invariant_of-self
-invariant_of-self g c =
+pub invariant_of-self-in-Ok-added : goal.invariant_of-self-in-Ok-added
+invariant_of-self-in-Ok-added g c =
     let k = c.self.inside in
     let is = c.self.invariant.keeping.replayed_is c.in_default.is in
     let planned = c.in-Ok.ensures.ok k.history.items is (ap (λ (l : List Event). length l + 1) c.as_slice.ensures.value) in
