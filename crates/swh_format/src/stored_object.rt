@@ -18,9 +18,9 @@ fn push_entry(bytes: &mut Vec<u8>, entry: &Entry) -> Result<(), Memory>
     Ok(())
 }
 
-/// The room that is taken for a run is a whole number of these. Where nothing so large is free, the C library maps it alone (glibc from 32
-/// MiB on) and gives it back whole, so that nothing small comes to stand where a run was and the next wants new room. Of a
-/// mapping only what is written takes memory.
+/// The room that is taken for a run is a whole number of these. Where nothing so large is free, the C library maps it alone
+/// (glibc from 32 MiB on) and gives it back whole, so that nothing small comes to stand where a run was and the next wants
+/// new room. Of a mapping only what is written takes memory.
 const ROOM: usize = 33 << 20;
 
 /// Room for the run of these entries: the kind, the length and the id of each stand before its body.
