@@ -24,7 +24,7 @@ pub struct Keeper<N: Namer, D: Disk> {
     replayed: Replayed,
     history: Vec<Event>,
     wounded: Option<u64>,
-    /// The vector of the last run, in whose room the next one is written.
+    /// The vector of the last run, unless that was long: the next one is written in its room.
     room: Vec<u8>,
 }
 
@@ -365,7 +365,7 @@ impl<N: Namer, D: Disk> Keeper<N, D> {
         );
         let fault = match added {
             Ok(run) => {
-                self.room = run;
+                self.room = kept_room(self.alloc, run);
                 return Ok(outcome);
             }
             Err(fault) => fault,
@@ -378,6 +378,17 @@ impl<N: Namer, D: Disk> Keeper<N, D> {
             }
         }
     }
+}
+
+/// A longer run gives its room back: it had a body of many bytes at its end, and the next run mostly has none.
+const MOST_KEPT: usize = 32 << 20;
+
+/// The vector of a run, or an empty one in the place of one that is too long to be kept.
+fn kept_room(alloc: Global, run: Vec<u8>) -> Vec<u8> {
+    if run.len() > MOST_KEPT {
+        return Vec::new(alloc);
+    }
+    run
 }
 
 // What another thread may be handed.
