@@ -39,7 +39,7 @@ def stream_of(noise):
         person = b"A <a@e.org> %d +0000" % (1_000_000_000 + number)
         parts.append(b"commit refs/heads/main\ncommitter %s\ndata 0\n" % person)
         for _ in range(noise.randrange(1, 8)):
-            body = b"%d\n" % noise.randrange(1000) * noise.randrange(1, 2000)
+            body = b"%d\n" % noise.randrange(1000) * noise.randrange(1, 200)
             parts.append(b"M 100644 inline f%d\ndata %d\n%s\n" % (noise.randrange(20), len(body), body))
         parts.append(b"\n")
     return b"".join(parts)
@@ -88,19 +88,27 @@ class Archive:
         self.look(origins, printed)
         return running.returncode == -signal.SIGKILL
 
-    def visits_of(self, origin):
-        status, printed = self.run("ask", "A", "/api/1/origin/%s/visits/" % urllib.parse.quote(origin, safe=""))
-        head, body = printed.split(b"\n", 1)
-        if head.startswith(b"404 ") and status == 1:
-            return []
-        if status or not head.startswith(b"200 "):
-            raise Wrong("asking ended with status %d: %r" % (status, printed))
-        return json.loads(body)[::-1]
+    def visits_now(self):
+        """The visits of each origin, by one opening, the oldest first."""
+        paths = ["/api/1/origin/%s/visits/" % urllib.parse.quote(origin, safe="") for origin in ORIGINS]
+        status, left = self.run("ask", "A", *paths)
+        if status > 1:
+            raise Wrong("asking ended with status %d: %r" % (status, left))
+        found = {}
+        for origin in ORIGINS:
+            head, left = left.split(b"\n", 1)
+            code, length = map(int, head.split(b" "))
+            body, left = left[:length], left[length + 1:]
+            if code not in (200, 404):
+                raise Wrong("%s was asked for: %d %r" % (origin, code, body))
+            found[origin] = json.loads(body)[::-1] if code == 200 else []
+        return found
 
     def look(self, loaded, printed):
         """Compares the visits with those of the last look, and with the lines of a run of these jobs."""
+        found = self.visits_now()
         for origin in ORIGINS:
-            before, now = self.visits[origin], self.visits_of(origin)
+            before, now = self.visits[origin], found[origin]
             if not len(before) <= len(now) <= len(before) + (origin in loaded):
                 raise Wrong("%s had %d visits, and has %d" % (origin, len(before), len(now)))
             for old, new in zip(before, now):
