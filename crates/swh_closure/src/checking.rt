@@ -113,7 +113,7 @@ pub fn check<G: Graph>(graph: &G, closed: &Closed, cert: &Cert) -> Result<(), Ga
 {
     let names = cert.names.as_slice();
     let ascending = is_ascending(names);
-    let mut hints = Hints::new(*cert.names.allocator(), names.len());
+    let mut hints = Hints::new(*cert.names.allocator(), names);
     if !is_covered(names, ascending, &mut hints, closed, &cert.root) {
         let parent = None;
         return Err(Gap::Unlisted {

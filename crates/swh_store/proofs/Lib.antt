@@ -3,3 +3,4 @@ pub mod AddingLemmas
 pub mod FirstPlaces
 pub mod Fronts
 pub mod MarkLemmas
+pub mod KeyLemmas

@@ -8,8 +8,9 @@ ghost use Rattle.swh_model.specs.Judge.{not_held, Collides};
 ghost use Rattle.swh_store.specs.Entries.{bodies_in, IsIndexed};
 ghost use Rattle.swh_store.specs.Adding.{IsStanding, Joins, IsTakenUp, IsEntryFault, IsStoreFault};
 
-use crate::entries::{Held, key_of, lead, push_again};
+use crate::entries::{Held, lead, push_again};
 use crate::fault::StoreFault;
+use crate::key::key_of;
 use crate::marks::set_mark;
 use swh_base::{Entry, Memory};
 

@@ -1,40 +1,25 @@
 //! Entries in the order of their adding, and the place of each by its name's key.
+use crate::key::{Key, key_of};
 use crate::marks::{marks_of, may_hold, set_mark};
 use std::alloc::Global;
 use std::collections::BTreeMap;
 use swh_base::{Entry, Memory, Name};
-use swh_model::kind_byte;
 
 /// Entries of which no two have one name. The map holds their places alone, so that its nodes are small; those that were
 /// added last can be taken out again, which wants no memory. Where there are marks, one that is not set spares a look-up.
 #[derive(Drop)]
 pub struct Held {
-    pub places: BTreeMap<[u8; 21], usize>,
+    pub places: BTreeMap<Key, usize>,
     pub marks: Vec<u64>,
     pub entries: Vec<Entry>,
 }
 
 ghost use Rattle.std.specs.Prelude.{◌≡◌, IfOk, OnErr};
 ghost use Rattle.std.specs.BTreeMap.{get, IsUnchanged};
-ghost use Rattle.swh_base.specs.Name.{name_key};
 ghost use Rattle.swh_store.specs.Entries.{keys_cmp, IsLed};
 
-/// The kind's number, then the id.
-pub fn key_of(name: &Name) -> [u8; 21]
-    ensures { result ≡ name_key name.now }
-{
-    let mut key = [0; 21];
-    key[0] = kind_byte(name.kind);
-    key[1..].copy_from_slice(&name.id);
-    key
-}
-
 /// The place to which a key leads: where it led nowhere, it leads to this one from now on. The key is looked for once.
-pub fn lead(
-    places: &mut BTreeMap<[u8; 21], usize>,
-    key: [u8; 21],
-    place: usize,
-) -> Result<usize, Memory>
+pub fn lead(places: &mut BTreeMap<Key, usize>, key: Key, place: usize) -> Result<usize, Memory>
     ensures ok { IfOk result (IsLed (get keys_cmp places.old) (get keys_cmp places.new) key place) }
     ensures err { OnErr result (IsUnchanged places.old places.new) }
 {

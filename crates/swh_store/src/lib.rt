@@ -9,6 +9,7 @@ mod adding;
 mod distinct;
 mod entries;
 mod fault;
+mod key;
 mod marks;
 mod preloaded;
 mod store;

@@ -5,7 +5,8 @@ ghost use Rattle.std.specs.FinMap as finite;
 ghost use Rattle.swh_model.specs.Step.{HasItsChildren, AreNew};
 ghost use Rattle.swh_store.specs.Front.{backwards, IsFirstIndex, AreFresh};
 
-use crate::entries::{Held, key_of};
+use crate::entries::Held;
+use crate::key::{Key, key_of};
 use crate::marks::marks_of;
 use crate::store::Store;
 use std::alloc::Global;
@@ -38,7 +39,7 @@ impl Model for Preloaded {
 }
 
 /// The keys of the names with their places, from the last to the first.
-fn places_backwards(alloc: Global, entries: &[Entry]) -> Result<Vec<([u8; 21], usize)>, Memory>
+fn places_backwards(alloc: Global, entries: &[Entry]) -> Result<Vec<(Key, usize)>, Memory>
     ensures { IfOk result (λ pairs. pairs.items ≡ backwards 0 entries.now) }
 {
     let mut pairs = Vec::with_capacity(alloc, entries.len())?;
