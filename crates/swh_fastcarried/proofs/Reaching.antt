@@ -65,10 +65,10 @@ module _ (bodies : Bodies) (order : List Name) (name : Name) where
     of_entry : (e : DirectoryEntry) → HasDirectoryEntry bodies name e → Contains entries e
     of_entry e has = subst (λ (es : List DirectoryEntry). Contains es e) (same_entries has.body has.entries has.held has.is) has.there
 
-    empty_same : (folders : List Name) → ((n : Name) → Contains folders n ↔ IsOneOf (IsFolderAt bodies) order n) → IsEmptyFolder folders name entries ↔ E
-    empty_same folders know = (
+    empty_same : IsEmptyFolder (IsOneOf (IsFolderAt bodies) order) name entries ↔ E
+    empty_same = (
       λ h.
-          let one = (know name).0 h.1 in
+          let one = h.1 in
           record {
             kind = kind;
             empty = subst (HoldsDirectory bodies name) h.0 holds;
@@ -81,7 +81,7 @@ module _ (bodies : Bodies) (order : List Name) (name : Name) where
           },
       λ h. (
         sym (same_entries h.empty.body [] h.empty.held h.empty.is),
-        (know name).1 (record { one = h.parent; there = h.there; is = record { entry = h.entry; is_entry = h.is_entry; folder = (h.folder, h.named) } }),
+        record { one = h.parent; there = h.there; is = record { entry = h.entry; is_entry = h.is_entry; folder = (h.folder, h.named) } },
       ),
     )
 
@@ -111,10 +111,10 @@ module _ (bodies : Bodies) (order : List Name) (name : Name) where
       },
     )
 
-    pub rule_held : (folders : List Name) → ((n : Name) → Contains folders n ↔ IsOneOf (IsFolderAt bodies) order n) → (o : Option ℕ) → Tells (IsWay bodies order name) o
-        → (rule : Option Why) → IsFolderRule (IsEmptyFolder folders name entries) (HaveDots entries) (IsLongOver o entries) rule → IsFolderRule (IsEmptyEntry bodies order name) (HasDots bodies name) (HasLongPath bodies (IsRevisionRoot bodies order) name) rule
-    rule_held folders know o tells rule is =
-        rule_same (IsEmptyFolder folders name entries) (HaveDots entries) (IsLongOver o entries) E D P (empty_same folders know) dots_same (long_same o tells) rule is
+    pub rule_held : (o : Option ℕ) → Tells (IsWay bodies order name) o
+        → (rule : Option Why) → IsFolderRule (IsEmptyFolder (IsOneOf (IsFolderAt bodies) order) name entries) (HaveDots entries) (IsLongOver o entries) rule → IsFolderRule (IsEmptyEntry bodies order name) (HasDots bodies name) (HasLongPath bodies (IsRevisionRoot bodies order) name) rule
+    rule_held o tells rule is =
+        rule_same (IsEmptyFolder (IsOneOf (IsFolderAt bodies) order) name entries) (HaveDots entries) (IsLongOver o entries) E D P empty_same dots_same (long_same o tells) rule is
 
 -- ---- releases at their own branch
 

@@ -14,7 +14,7 @@ ghost use Rattle.swh_dirfmt.specs.Entries.{entries_in_body};
 ghost use Rattle.swh_postorder.specs.Cycle.{ArePreceded};
 ghost use Rattle.swh_postorder.specs.Postorder.{Precedes};
 ghost use Rattle.swh_carried.specs.Rules.{HasDots, HasLongPath};
-ghost use Rattle.swh_fastcarried.specs.First.{HaveDots, IsFirstRule, IsFirstFound};
+ghost use Rattle.swh_fastcarried.specs.First.{HaveDots, IsOneOf, IsFolderAt, IsFirstRule, IsFirstFound};
 ghost use Rattle.swh_fastcarried.specs.Known.{Knows, IsEmptyFolder, IsLongOver, IsFolderRule};
 ghost use Rattle.swh_fastcarried.specs.Rules.{
   IsEmptyEntry,
@@ -25,26 +25,34 @@ ghost use Rattle.swh_fastcarried.specs.Rules.{
 
 use crate::branches::have_odd_branch;
 use crate::directories::have_dots;
+use crate::folders::is_folder;
 use crate::plain::{is_odd_release, is_odd_revision};
 use crate::reached::{Reached, survey};
 use std::alloc::Global;
 use std::collections::BTreeMap;
 use swh_base::{Kind, Memory, Name};
 use swh_carried::Why;
-use swh_closure::Closed;
 use swh_dirfmt::SpelledEntry;
 use swh_graph::{GraphFault, directory_at, snapshot_at};
 use swh_model::Look;
 use swh_ways::{have_long, way_to};
 
-/// Whether a directory of these entries is empty, and one of the folders.
-fn is_empty_folder(folders: &Closed, name: Name, entries: &[SpelledEntry<'_>]) -> bool
-    ensures { IsTrue result ↔ IsEmptyFolder folders.now name (entries_in_body entries.now) }
+/// Whether a directory of these entries is empty, and an entry of one of the names. Only where it is empty they are read: all
+/// directories without entries have one name, so this is once at most in an order.
+fn is_empty_folder<L: Look>(
+    alloc: Global,
+    look: &L,
+    order: &[Name],
+    name: Name,
+    entries: &[SpelledEntry<'_>],
+) -> Result<bool, Memory>
+    ensures { IfOk result (λ is. IsTrue is ↔ IsEmptyFolder (IsOneOf (IsFolderAt (L.archive look.now).bodies) order.now)
+        name (entries_in_body entries.now)) }
 {
     if entries.is_empty() {
-        return folders.contains(&name);
+        return is_folder(alloc, look, order, name);
     }
-    false
+    Ok(false)
 }
 
 /// Whether one of a directory's entries makes a path to it longer than a path may be.
@@ -59,21 +67,28 @@ fn is_long_over(ways: &BTreeMap<Name, u64>, name: Name, entries: &[SpelledEntry<
 }
 
 /// The first rule that a directory of these entries breaks, if it breaks one.
-fn rule_of_entries(reached: &Reached<'_>, name: Name, entries: &[SpelledEntry<'_>]) -> Option<Why>
-    ensures { IsFolderRule (IsEmptyFolder reached.now.folders name (entries_in_body entries.now))
+fn rule_of_entries<L: Look>(
+    alloc: Global,
+    look: &L,
+    reached: &Reached<'_>,
+    name: Name,
+    entries: &[SpelledEntry<'_>],
+) -> Result<Option<Why>, Memory>
+    ensures { IfOk result (IsFolderRule
+        (IsEmptyFolder (IsOneOf (IsFolderAt (L.archive look.now).bodies) reached.now.order.now) name (entries_in_body entries.now))
         (HaveDots (entries_in_body entries.now))
-        (IsLongOver (lookup (is_at (name_cmp name)) reached.now.ways.entries) (entries_in_body entries.now)) result }
+        (IsLongOver (lookup (is_at (name_cmp name)) reached.now.ways.entries) (entries_in_body entries.now))) }
 {
-    if is_empty_folder(&reached.folders, name, entries) {
-        return Some(Why::Empty);
+    if is_empty_folder(alloc, look, reached.order, name, entries)? {
+        return Ok(Some(Why::Empty));
     }
     if have_dots(entries) {
-        return Some(Why::Dots);
+        return Ok(Some(Why::Dots));
     }
     if is_long_over(&reached.ways, name, entries) {
-        return Some(Why::Path);
+        return Ok(Some(Why::Path));
     }
-    None
+    Ok(None)
 }
 
 /// The first rule that a directory breaks, if it breaks one.
@@ -95,7 +110,7 @@ fn rule_of_directory<L: Look>(
         Err(GraphFault::NotHeld { .. }) => return Ok(None),
         Err(GraphFault::NoPath { .. }) => unreachable!(),
     };
-    Ok(rule_of_entries(reached, name, entries.as_slice()))
+    rule_of_entries(alloc, look, reached, name, entries.as_slice())
 }
 
 /// Whether a release does not stand at its own branch of the root, where that is a snapshot.

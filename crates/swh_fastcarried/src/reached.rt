@@ -8,7 +8,6 @@ ghost use Rattle.std.specs.Prelude.{◌↔◌, Contains};
 ghost use Rattle.swh_fastcarried.specs.Rules.{StandsAtBranch};
 ghost use Rattle.swh_fastcarried.specs.Known.{Knows};
 
-use crate::folders::folders_of;
 use crate::tagged::tagged_of;
 use crate::ways::ways_of;
 use std::alloc::Global;
@@ -17,13 +16,12 @@ use swh_base::{Kind, Memory, Name};
 use swh_closure::Closed;
 use swh_model::Look;
 
-/// A root, the names that are reached from it in their order, and what is known of them: the directories that are entries
-/// of others, how long the paths to each directory are, and the releases that stand at their own branch of the root.
+/// A root, the names that are reached from it in their order, and what is known of them: how long the paths to each directory
+/// are, and the releases that stand at their own branch of the root.
 #[derive(Drop)]
 pub(crate) struct Reached<'a> {
     pub(crate) root: Name,
     pub(crate) order: &'a [Name],
-    pub(crate) folders: Closed,
     pub(crate) ways: BTreeMap<Name, u64>,
     pub(crate) tagged: Closed,
 }
@@ -52,13 +50,11 @@ pub(crate) fn survey<'a, L: Look>(
     ensures root { IfOk result (λ r. r.root ≡ root) }
     ensures order { IfOk result (λ r. r.order.now ≡ order.now) }
 {
-    let folders = folders_of(alloc, look, order)?;
     let ways = ways_of(alloc, look, order)?;
     let tagged = tags_of(alloc, look, root)?;
     Ok(Reached {
         root,
         order,
-        folders,
         ways,
         tagged,
     })

@@ -26,6 +26,5 @@ pub fn ways_of<L: Look>(
 {
     look.is_graph();
     let roots = roots_of(alloc, look, order)?;
-    let starts = roots.list(alloc)?;
-    ways_from(alloc, look, order, starts.as_slice())
+    ways_from(alloc, look, order, roots.as_slice())
 }

@@ -2,7 +2,7 @@ use Rattle.std.specs.Map.{lookup}
 use Rattle.std.specs.BTreeMap.{is_at}
 use Rattle.swh_base.specs.Name.{name_cmp}
 use Rattle.swh_dirfmt.specs.Entries.{entries_in_body}
-use Rattle.swh_fastcarried.proofs.Reaching.{none_broken, rule_held}
+use Rattle.swh_fastcarried.proofs.Reaching.{if_ok, none_broken, rule_held}
 use Rattle.swh_fastcarried.proofs.first.rule_of_directory.Goals as goal
 
 pub returns-in-Err-NotHeld : goal.returns-in-Err-NotHeld
@@ -14,5 +14,6 @@ pub returns : goal.returns
 returns g c =
     let r = c.args.reached.now in
     let entries = entries_in_body c.in-Ok.entries.items in
-    rule_held (g.L.Look.archive c.args.look.now).bodies r.order.now c.args.name c.requires.kind entries c.in-Ok.ensures.ok r.folders c.requires.knows.folders (lookup (is_at (name_cmp c.args.name)) r.ways.entries)
-    (c.requires.knows.ways c.args.name) c.rule_of_entries.result (rw c.as_slice.ensures.value at c.rule_of_entries.ensures)
+    if_ok c.rule_of_entries.result
+    (rule_held (g.L.Look.archive c.args.look.now).bodies r.order.now c.args.name c.requires.kind entries c.in-Ok.ensures.ok (lookup (is_at (name_cmp c.args.name)) r.ways.entries)
+    (c.requires.knows.ways c.args.name)) (rw c.as_slice.ensures.value at c.rule_of_entries.ensures)
