@@ -15,8 +15,8 @@ use Rattle.swh_graph.specs.Path.{directory_name}
 use Rattle.swh_graph.proofs.Lists.{in_first, only, same_some}
 use Rattle.swh_postorder.specs.Cycle.{ArePreceded}
 use Rattle.swh_postorder.proofs.Preceded.{cut_at}
-use Rattle.swh_ways.specs.Ways.{TellAll, IsWay as IsWayFrom}
-use Rattle.swh_ways.proofs.WayCounts.{all_same}
+use Rattle.swh_ways.specs.Ways.{Tells, IsWay as IsWayFrom}
+use Rattle.swh_ways.proofs.WayCounts.{tells_same}
 use Rattle.swh_fastcarried.specs.First.{IsOneOf, IsRootAt}
 use Rattle.swh_fastcarried.specs.Rules.{IsRevisionRoot}
 use Rattle.swh_fastcarried.specs.RevisionWays.{IsWay}
@@ -112,8 +112,8 @@ module _ (bodies : Bodies) where
     root_in order preceded n is = subst (Contains order) (sym is.named) (kid_in order preceded is.commit (directory_name is.revision.directory) is.there (revision_kid is.commit is.revision is.kind is.holds))
 
   -- ways from these directories are ways from those of revisions
-  pub ways_same : (order starts : List Name) → ((n : Name) → Contains starts n ↔ IsRevisionRoot bodies order n) → (entries : List (Name × ℕ)) → TellAll (IsWayFrom bodies starts) entries → TellAll (IsWay bodies order) entries
-  ways_same order starts are =
-      all_same (IsWayFrom bodies starts) (IsWay bodies order)
-      (λ n c w. record { start = w.start; begins = (are w.start).0 w.starts_there; way = w.way; leads = w.leads; is = w.is })
-      (λ n c w. record { start = w.start; starts_there = (are w.start).1 w.begins; way = w.way; leads = w.leads; is = w.is })
+  pub ways_same : (order starts : List Name) → ((n : Name) → Contains starts n ↔ IsRevisionRoot bodies order n) → (n : Name) (o : Option ℕ) → Tells (IsWayFrom bodies starts n) o → Tells (IsWay bodies order n) o
+  ways_same order starts are n =
+      tells_same (IsWayFrom bodies starts n) (IsWay bodies order n)
+      (λ c w. record { start = w.start; begins = (are w.start).0 w.starts_there; way = w.way; leads = w.leads; is = w.is })
+      (λ c w. record { start = w.start; starts_there = (are w.start).1 w.begins; way = w.way; leads = w.leads; is = w.is })
