@@ -1,4 +1,5 @@
 pub mod FirstRules
+pub mod FromEnd
 pub mod OddObjects
 pub mod Ones
 pub mod OwnBranches

@@ -1,6 +1,6 @@
 -- What is known of all that is reached, and the rules that it tells of.
 use Rattle.std.proofs.Common.{Result, Ok, Err, ◌≡◌, ◌⊎◌, inl, inr, ℕ, ◌+◌, ◌<◌, ◌≤◌, Bool, true, false, Option, Some, None, List, [], ◌∷◌, ◌++◌, length, take, drop, get_or, refl, sym, ap, ◌∙◌, subst, arith, add-one, drop-cons}
-use Rattle.std.specs.Prelude.{Contains, ◌↔◌, IsTrue, IfOk}
+use Rattle.std.specs.Prelude.{Contains, ◌↔◌, IsTrue, IfOk, OnOk, IfSome, IfNone}
 use Rattle.std.proofs.lemmas.List.{take-append-drop}
 use Rattle.swh_base.specs.declared.kind.Kind.TheVariants.{Directory as DirectoryKind, Release as ReleaseKind}
 use Rattle.swh_base.specs.declared.name.Name.{Name}
@@ -16,7 +16,7 @@ use Rattle.swh_carried.specs.declared.fault.Why.{Why}
 use Rattle.swh_carried.specs.declared.fault.Why.TheVariants.{Cycle, Revision, Release, Empty, Dots, Text, Path, Branch, Tagless, Refs, Length}
 use Rattle.swh_carried.specs.Rules.{HasDirectoryEntry, HasDots, HasLongPath, way_length}
 use Rattle.swh_carried.specs.Uncarried.{BreaksNone, IsFirstToBreak}
-use Rattle.swh_ways.specs.Ways.{Tells}
+use Rattle.swh_ways.specs.Ways.{Tells, RaisesOverAll, TellsOfFolders}
 use Rattle.swh_fastcarried.specs.First.{HaveDots, IsOneOf, IsFolderAt, IsOwnTag, IsFirstRule}
 use Rattle.swh_fastcarried.specs.Known.{IsEmptyFolder, IsLongOver, IsFolderRule}
 use Rattle.swh_fastcarried.specs.Rules.{IsEmptyEntry, IsRevisionRoot, HasOddBranch, HaveOddBranch, StandsAtBranch}
@@ -65,10 +65,10 @@ module _ (bodies : Bodies) (order : List Name) (name : Name) where
     of_entry : (e : DirectoryEntry) → HasDirectoryEntry bodies name e → Contains entries e
     of_entry e has = subst (λ (es : List DirectoryEntry). Contains es e) (same_entries has.body has.entries has.held has.is) has.there
 
-    empty_same : (folders : List Name) → ((n : Name) → Contains folders n ↔ IsOneOf (IsFolderAt bodies) order n) → IsEmptyFolder folders name entries ↔ E
-    empty_same folders know = (
+    empty_same : IsEmptyFolder (IsOneOf (IsFolderAt bodies) order) name entries ↔ E
+    empty_same = (
       λ h.
-          let one = (know name).0 h.1 in
+          let one = h.1 in
           record {
             kind = kind;
             empty = subst (HoldsDirectory bodies name) h.0 holds;
@@ -81,7 +81,7 @@ module _ (bodies : Bodies) (order : List Name) (name : Name) where
           },
       λ h. (
         sym (same_entries h.empty.body [] h.empty.held h.empty.is),
-        (know name).1 (record { one = h.parent; there = h.there; is = record { entry = h.entry; is_entry = h.is_entry; folder = (h.folder, h.named) } }),
+        record { one = h.parent; there = h.there; is = record { entry = h.entry; is_entry = h.is_entry; folder = (h.folder, h.named) } },
       ),
     )
 
@@ -111,10 +111,21 @@ module _ (bodies : Bodies) (order : List Name) (name : Name) where
       },
     )
 
-    pub rule_held : (folders : List Name) → ((n : Name) → Contains folders n ↔ IsOneOf (IsFolderAt bodies) order n) → (o : Option ℕ) → Tells (IsWay bodies order name) o
-        → (rule : Option Why) → IsFolderRule (IsEmptyFolder folders name entries) (HaveDots entries) (IsLongOver o entries) rule → IsFolderRule (IsEmptyEntry bodies order name) (HasDots bodies name) (HasLongPath bodies (IsRevisionRoot bodies order) name) rule
-    rule_held folders know o tells rule is =
-        rule_same (IsEmptyFolder folders name entries) (HaveDots entries) (IsLongOver o entries) E D P (empty_same folders know) dots_same (long_same o tells) rule is
+    pub rule_held : (o : Option ℕ) → Tells (IsWay bodies order name) o
+        → (rule : Option Why) → IsFolderRule (IsEmptyFolder (IsOneOf (IsFolderAt bodies) order) name entries) (HaveDots entries) (IsLongOver o entries) rule → IsFolderRule (IsEmptyEntry bodies order name) (HasDots bodies name) (HasLongPath bodies (IsRevisionRoot bodies order) name) rule
+    rule_held o tells rule is =
+        rule_same (IsEmptyFolder (IsOneOf (IsFolderAt bodies) order) name entries) (HaveDots entries) (IsLongOver o entries) E D P empty_same dots_same (long_same o tells) rule is
+
+-- ---- ways over a directory's entries
+
+module _ (bodies : Bodies) (name : Name) (old new : List (Name × ℕ)) where
+  pub nothing_told : body_of bodies name ≡ None → new ≡ old → (o : Option ℕ) → TellsOfFolders bodies name o old new
+  nothing_told missing same None = same
+  nothing_told missing same (Some way) = inr (missing, same)
+
+  pub folders_told : (entries : List DirectoryEntry) → HoldsDirectory bodies name entries → (o : Option ℕ) → IfSome o (λ way. RaisesOverAll way entries old new) → IfNone o (new ≡ old) → TellsOfFolders bodies name o old new
+  folders_told entries holds None some same = same
+  folders_told entries holds (Some way) over none = inl (entries, holds, over)
 
 -- ---- releases at their own branch
 
@@ -160,6 +171,10 @@ module _ (Breaks : Name → Why → Type 0) (order : List Name) (i : ℕ) (none 
 pub if_ok : {T F : Type 0} {A B : T → Type 0} (r : Result T F) → ((x : T) → A x → B x) → IfOk r A → IfOk r B
 if_ok (Ok x) on h = on x h
 if_ok (Err e) on h = tt
+
+pub on_ok : {T F : Type 0} {A : Type 0} (r : Result T F) → A → OnOk r A
+on_ok (Ok x) h = h
+on_ok (Err e) h = tt
 
 -- a set that is empty, where nothing has the property
 pub empty_set : (set : List Name) (Is : Name → Type 0) → set ≡ [] → ((n : Name) → Is n → ⊥) → (n : Name) → Contains set n ↔ Is n

@@ -1,7 +1,7 @@
 -- Directories of revisions, and the ways that start at them.
-use Rattle.std.proofs.Common.{◌≡◌, ℕ, Option, Some, None, List, ◌∷◌, map, refl, sym, ap, ◌∙◌, subst}
+use Rattle.std.proofs.Common.{◌≡◌, ◌⊎◌, inl, inr, ℕ, Option, Some, None, List, [], ◌∷◌, ◌++◌, map, refl, sym, ap, ◌∙◌, subst}
 use Rattle.std.specs.Prelude.{Contains, ◌↔◌}
-use Rattle.std.proofs.lemmas.List.Elements.{Contains-append_left}
+use Rattle.std.proofs.lemmas.List.Elements.{Contains-append_left, Contains-append_right, Contains-append_cases}
 use Rattle.swh_base.specs.declared.kind.Kind.{Kind}
 use Rattle.swh_base.specs.declared.kind.Kind.TheVariants.{Revision as RevisionKind}
 use Rattle.swh_base.specs.declared.name.Name.{Name}
@@ -12,14 +12,30 @@ use Rattle.swh_base.proofs.RevisionLemmas.{one_revision}
 use Rattle.swh_model.specs.Archive.{Bodies, body_of, IsGraphOf}
 use Rattle.swh_graph.specs.Holding.{HoldsRevision}
 use Rattle.swh_graph.specs.Path.{directory_name}
-use Rattle.swh_graph.proofs.Lists.{in_first, same_some}
+use Rattle.swh_graph.proofs.Lists.{in_first, only, same_some}
 use Rattle.swh_postorder.specs.Cycle.{ArePreceded}
 use Rattle.swh_postorder.proofs.Preceded.{cut_at}
-use Rattle.swh_ways.specs.Ways.{TellAll, IsWay as IsWayFrom}
-use Rattle.swh_ways.proofs.WayCounts.{all_same}
+use Rattle.swh_ways.specs.Ways.{Tells, IsWay as IsWayFrom}
+use Rattle.swh_ways.proofs.WayCounts.{tells_same}
 use Rattle.swh_fastcarried.specs.First.{IsOneOf, IsRootAt}
 use Rattle.swh_fastcarried.specs.Rules.{IsRevisionRoot}
 use Rattle.swh_fastcarried.specs.RevisionWays.{IsWay}
+
+same_first : (a b : Name) (xs ys : List Name) → a ∷ xs ≡ b ∷ ys → a ≡ b
+same_first a b xs ys e = cc e
+
+-- a name at the end of a list
+pub pushed : (old new : List Name) (name : Name) → new ≡ old ++ name ∷ [] → (n : Name) → Contains new n ↔ (Contains old n ⊎ (name ≡ n))
+pushed old new name is n = (
+  λ there. elim (Contains-append_cases old (name ∷ []) n (subst (λ (l : List Name). Contains l n) is there)) [
+    | inl was ↦ inl was
+    | inr last ↦ inr (only name n last)
+  ],
+  λ there. subst (λ (l : List Name). Contains l n) (sym is) (elim there [
+    | inl was ↦ Contains-append_left old (name ∷ []) n was
+    | inr same ↦ subst (Contains (old ++ name ∷ [])) same (Contains-append_right old (name ∷ []) name (in_first name []))
+  ]),
+)
 
 module _ (bodies : Bodies) where
   module _ (name : Name) where
@@ -32,6 +48,10 @@ module _ (bodies : Bodies) where
         ap (λ (x : Revision). directory_name x.directory)
         (one_revision holds.body r is.revision holds.is (subst (λ (b : List ℕ). IsRevision b is.revision) (same_some is.holds.body holds.body (sym is.holds.held ∙ holds.held)) is.holds.is))
         ∙ sym is.named
+
+    -- a revision has one directory
+    pub one_root : (root : Name) → IsRootAt bodies name root → (n : Name) → (root ≡ n) ↔ IsRootAt bodies name n
+    one_root root is n = (λ e. subst (IsRootAt bodies name) e is, λ other. is.named ∙ only_root is.revision is.holds n other)
 
     pub no_root : body_of bodies name ≡ None → (n : Name) → IsRootAt bodies name n → ⊥
     no_root missing n is = let e : Some is.holds.body ≡ None = sym is.holds.held ∙ missing in cc
@@ -55,6 +75,26 @@ module _ (bodies : Bodies) where
         let are = subst (λ (k : Kind). AreChildren k has.0 kids) kind has.2 in
         found ∙ ap (λ (ns : List Name). Some ns) (are.kids ∙ ap revision_children (one_revision body are.revision r (subst (λ (b : List ℕ). IsRevision b are.revision) same are.is) is))
 
+    -- the first child of a revision is its directory
+    pub first_is_root : (name kid : Name) (kids : List Name) → name.kind ≡ RevisionKind → children_of name ≡ Some kids → (rest : List Name) → kids ≡ kid ∷ rest → IsRootAt bodies name kid
+    first_is_root name kid kids kind found rest cut =
+        let has = graph.held name kids found in
+        let are = subst (λ (k : Kind). AreChildren k has.0 kids) kind has.2 in
+        record {
+          kind = kind;
+          revision = are.revision;
+          holds = record { body = has.0; held = has.1; is = are.is };
+          named = same_first kid (directory_name are.revision.directory) rest (map revision_name are.revision.parents) (sym cut ∙ are.kids);
+        }
+
+    -- a revision that is held has a child
+    pub has_first : (name : Name) (kids : List Name) → name.kind ≡ RevisionKind → children_of name ≡ Some kids → kids ≡ [] → ⊥
+    has_first name kids kind found none =
+        let has = graph.held name kids found in
+        let are = subst (λ (k : Kind). AreChildren k has.0 kids) kind has.2 in
+        let e : [] ≡ revision_children are.revision = sym none ∙ are.kids in
+        cc
+
     revision_kid : (place : Name) (r : Revision) → place.kind ≡ RevisionKind → HoldsRevision bodies place r → IsChildIn children_of place (directory_name r.directory)
     revision_kid place r kind holds = record {
       kids = revision_children r;
@@ -72,8 +112,8 @@ module _ (bodies : Bodies) where
     root_in order preceded n is = subst (Contains order) (sym is.named) (kid_in order preceded is.commit (directory_name is.revision.directory) is.there (revision_kid is.commit is.revision is.kind is.holds))
 
   -- ways from these directories are ways from those of revisions
-  pub ways_same : (order starts : List Name) → ((n : Name) → Contains starts n ↔ IsRevisionRoot bodies order n) → (entries : List (Name × ℕ)) → TellAll (IsWayFrom bodies starts) entries → TellAll (IsWay bodies order) entries
-  ways_same order starts are =
-      all_same (IsWayFrom bodies starts) (IsWay bodies order)
-      (λ n c w. record { start = w.start; begins = (are w.start).0 w.starts_there; way = w.way; leads = w.leads; is = w.is })
-      (λ n c w. record { start = w.start; starts_there = (are w.start).1 w.begins; way = w.way; leads = w.leads; is = w.is })
+  pub ways_same : (order starts : List Name) → ((n : Name) → Contains starts n ↔ IsRevisionRoot bodies order n) → (n : Name) (o : Option ℕ) → Tells (IsWayFrom bodies starts n) o → Tells (IsWay bodies order n) o
+  ways_same order starts are n =
+      tells_same (IsWayFrom bodies starts n) (IsWay bodies order n)
+      (λ c w. record { start = w.start; begins = (are w.start).0 w.starts_there; way = w.way; leads = w.leads; is = w.is })
+      (λ c w. record { start = w.start; starts_there = (are w.start).1 w.begins; way = w.way; leads = w.leads; is = w.is })

@@ -7,20 +7,16 @@ use Rattle.swh_model.specs.Archive.{Bodies}
 use Rattle.swh_carried.specs.declared.fault.Why.{Why}
 use Rattle.swh_carried.specs.declared.fault.Why.TheVariants.{Cycle, Revision, Release, Empty, Dots, Text, Path, Branch, Tagless, Refs, Length}
 use Rattle.swh_fastcarried.specs.declared.reached.Reached.{Reached}
-use Rattle.swh_ways.specs.Ways.{HaveLong, TellAll}
-use Rattle.swh_fastcarried.specs.First.{IsOneOf, IsFolderAt}
+use Rattle.swh_ways.specs.Ways.{HaveLong}
 use Rattle.swh_fastcarried.specs.Rules.{StandsAtBranch}
-use Rattle.swh_fastcarried.specs.RevisionWays.{IsWay}
 
 -- All of it is as the archive has it.
 pub record Knows (bodies : Bodies) (r : Reached) : Type 0 where
-  pub folders : (n : Name) → Contains r.folders n ↔ IsOneOf (IsFolderAt bodies) r.order.now n
-  pub ways : TellAll (IsWay bodies r.order.now) r.ways.entries
   pub tagged : r.root.kind ≡ SnapshotKind → (n : Name) → n.kind ≡ ReleaseKind → Contains r.tagged n ↔ StandsAtBranch bodies r.root n
 
 -- The directory is empty, and one of the folders.
-abbrev pub IsEmptyFolder : List Name → Name → List DirectoryEntry → Type 0
-IsEmptyFolder folders name entries = (entries ≡ []) × Contains folders name
+abbrev pub IsEmptyFolder : (Name → Type 0) → Name → List DirectoryEntry → Type 0
+IsEmptyFolder IsFolder name entries = (entries ≡ []) × IsFolder name
 
 -- A way of so many bytes leads to the directory, and one of its entries makes it too long.
 abbrev pub IsLongOver : Option ℕ → List DirectoryEntry → Type 0

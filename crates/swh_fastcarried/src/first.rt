@@ -1,5 +1,5 @@
 //! The first object that a stream cannot carry, and why.
-ghost use Rattle.std.specs.Prelude.{◌≡◌, ◌↔◌, List, IsTrue, IfOk, Contains};
+ghost use Rattle.std.specs.Prelude.{◌≡◌, ◌↔◌, Some, List, IsTrue, OnOk, IfOk, IfSome, IfNone, Contains};
 ghost use Rattle.std.specs.Map.{lookup};
 ghost use Rattle.std.specs.BTreeMap.{is_at};
 ghost use Rattle.swh_base.specs.declared.kind.Kind.TheVariants.{
@@ -14,8 +14,10 @@ ghost use Rattle.swh_dirfmt.specs.Entries.{entries_in_body};
 ghost use Rattle.swh_postorder.specs.Cycle.{ArePreceded};
 ghost use Rattle.swh_postorder.specs.Postorder.{Precedes};
 ghost use Rattle.swh_carried.specs.Rules.{HasDots, HasLongPath};
-ghost use Rattle.swh_fastcarried.specs.First.{HaveDots, IsFirstRule, IsFirstFound};
+ghost use Rattle.swh_ways.specs.Ways.{Tells, TellsOf, TellsOfFolders, RaisesOverAll};
+ghost use Rattle.swh_fastcarried.specs.First.{HaveDots, IsOneOf, IsFolderAt, IsFirstRule, IsFirstFound};
 ghost use Rattle.swh_fastcarried.specs.Known.{Knows, IsEmptyFolder, IsLongOver, IsFolderRule};
+ghost use Rattle.swh_fastcarried.specs.RevisionWays.{IsWay};
 ghost use Rattle.swh_fastcarried.specs.Rules.{
   IsEmptyEntry,
   IsRevisionRoot,
@@ -25,69 +27,104 @@ ghost use Rattle.swh_fastcarried.specs.Rules.{
 
 use crate::branches::have_odd_branch;
 use crate::directories::have_dots;
+use crate::folders::is_folder;
 use crate::plain::{is_odd_release, is_odd_revision};
 use crate::reached::{Reached, survey};
+use crate::roots::roots_of;
 use std::alloc::Global;
 use std::collections::BTreeMap;
 use swh_base::{Kind, Memory, Name};
 use swh_carried::Why;
-use swh_closure::Closed;
 use swh_dirfmt::SpelledEntry;
 use swh_graph::{GraphFault, directory_at, snapshot_at};
 use swh_model::Look;
-use swh_ways::{have_long, way_to};
+use swh_ways::{have_long, raise_over_all, starts_of, way_to};
 
-/// Whether a directory of these entries is empty, and one of the folders.
-fn is_empty_folder(folders: &Closed, name: Name, entries: &[SpelledEntry<'_>]) -> bool
-    ensures { IsTrue result ↔ IsEmptyFolder folders.now name (entries_in_body entries.now) }
+/// Whether a directory of these entries is empty, and an entry of one of the names. Only where it is empty they are read: all
+/// directories without entries have one name, so this is once at most in an order.
+fn is_empty_folder<L: Look>(
+    alloc: Global,
+    look: &L,
+    order: &[Name],
+    name: Name,
+    entries: &[SpelledEntry<'_>],
+) -> Result<bool, Memory>
+    ensures { IfOk result (λ is. IsTrue is ↔ IsEmptyFolder (IsOneOf (IsFolderAt (L.archive look.now).bodies) order.now)
+        name (entries_in_body entries.now)) }
 {
     if entries.is_empty() {
-        return folders.contains(&name);
+        return is_folder(alloc, look, order, name);
     }
-    false
+    Ok(false)
 }
 
-/// Whether one of a directory's entries makes a path to it longer than a path may be.
-fn is_long_over(ways: &BTreeMap<Name, u64>, name: Name, entries: &[SpelledEntry<'_>]) -> bool
-    ensures { IsTrue result
-        ↔ IsLongOver (lookup (is_at (name_cmp name)) ways.now.entries) (entries_in_body entries.now) }
+/// Whether one of a directory's entries makes a path to it longer than a path may be. It is handed in how long the longest
+/// way to the directory is, if one leads there.
+fn is_long_over(way: Option<u64>, entries: &[SpelledEntry<'_>]) -> bool
+    ensures { IsTrue result ↔ IsLongOver way (entries_in_body entries.now) }
 {
-    match way_to(ways, &name) {
+    match way {
         Some(way) => have_long(way, entries),
         None => false,
     }
 }
 
-/// The first rule that a directory of these entries breaks, if it breaks one.
-fn rule_of_entries(reached: &Reached<'_>, name: Name, entries: &[SpelledEntry<'_>]) -> Option<Why>
-    ensures { IsFolderRule (IsEmptyFolder reached.now.folders name (entries_in_body entries.now))
-        (HaveDots (entries_in_body entries.now))
-        (IsLongOver (lookup (is_at (name_cmp name)) reached.now.ways.entries) (entries_in_body entries.now)) result }
+/// Notes the ways that go on over a directory's entries, if a way leads to it.
+fn pass_on(
+    ways: &mut BTreeMap<Name, u64>,
+    way: Option<u64>,
+    entries: &[SpelledEntry<'_>],
+) -> Result<(), Memory>
+    ensures some { OnOk result (IfSome way (λ w. RaisesOverAll w (entries_in_body entries.now) ways.old.entries ways.new.entries)) }
+    ensures none { OnOk result (IfNone way (ways.new.entries ≡ ways.old.entries)) }
 {
-    if is_empty_folder(&reached.folders, name, entries) {
-        return Some(Why::Empty);
+    match way {
+        Some(way) => raise_over_all(ways, way, entries),
+        None => Ok(()),
     }
-    if have_dots(entries) {
-        return Some(Why::Dots);
-    }
-    if is_long_over(&reached.ways, name, entries) {
-        return Some(Why::Path);
-    }
-    None
 }
 
-/// The first rule that a directory breaks, if it breaks one.
+/// The first rule that a directory of these entries breaks, if it breaks one.
+fn rule_of_entries<L: Look>(
+    alloc: Global,
+    look: &L,
+    reached: &Reached<'_>,
+    name: Name,
+    way: Option<u64>,
+    entries: &[SpelledEntry<'_>],
+) -> Result<Option<Why>, Memory>
+    ensures { IfOk result (IsFolderRule
+        (IsEmptyFolder (IsOneOf (IsFolderAt (L.archive look.now).bodies) reached.now.order.now) name (entries_in_body entries.now))
+        (HaveDots (entries_in_body entries.now)) (IsLongOver way (entries_in_body entries.now))) }
+{
+    if is_empty_folder(alloc, look, reached.order, name, entries)? {
+        return Ok(Some(Why::Empty));
+    }
+    if have_dots(entries) {
+        return Ok(Some(Why::Dots));
+    }
+    if is_long_over(way, entries) {
+        return Ok(Some(Why::Path));
+    }
+    Ok(None)
+}
+
+/// The first rule that a directory breaks, if it breaks one, once all ways to it are known. It notes those that go on over
+/// its folders, so that it is read once.
 fn rule_of_directory<L: Look>(
     alloc: Global,
     look: &L,
     reached: &Reached<'_>,
     name: Name,
+    ways: &mut BTreeMap<Name, u64>,
 ) -> Result<Option<Why>, Memory>
     requires kind { name.kind ≡ DirectoryKind }
-    requires knows { Knows (L.archive look.now).bodies reached.now }
-    ensures { IfOk result (IsFolderRule (IsEmptyEntry (L.archive look.now).bodies reached.now.order.now name)
+    requires known { Tells (IsWay (L.archive look.now).bodies reached.now.order.now name) (lookup (is_at (name_cmp name)) ways.old.entries) }
+    ensures rule { IfOk result (IsFolderRule (IsEmptyEntry (L.archive look.now).bodies reached.now.order.now name)
         (HasDots (L.archive look.now).bodies name)
         (HasLongPath (L.archive look.now).bodies (IsRevisionRoot (L.archive look.now).bodies reached.now.order.now) name)) }
+    ensures ways { OnOk result (TellsOfFolders (L.archive look.now).bodies name
+        (lookup (is_at (name_cmp name)) ways.old.entries) ways.old.entries ways.new.entries) }
 {
     let entries = match directory_at(alloc, look, name) {
         Ok(entries) => entries,
@@ -95,7 +132,9 @@ fn rule_of_directory<L: Look>(
         Err(GraphFault::NotHeld { .. }) => return Ok(None),
         Err(GraphFault::NoPath { .. }) => unreachable!(),
     };
-    Ok(rule_of_entries(reached, name, entries.as_slice()))
+    let way = way_to(ways, &name);
+    pass_on(ways, way, entries.as_slice())?;
+    rule_of_entries(alloc, look, reached, name, way, entries.as_slice())
 }
 
 /// Whether a release does not stand at its own branch of the root, where that is a snapshot.
@@ -181,39 +220,46 @@ fn rule_of_snapshot<L: Look>(
     Ok(None)
 }
 
-/// The first rule that an object breaks by itself, if it breaks one.
+/// The first rule that an object breaks by itself, if it breaks one, once all ways to it are known.
 fn rule_of_object<L: Look>(
     alloc: Global,
     look: &L,
     reached: &Reached<'_>,
     name: Name,
+    ways: &mut BTreeMap<Name, u64>,
 ) -> Result<Option<Why>, Memory>
-    requires { Knows (L.archive look.now).bodies reached.now }
-    ensures { IfOk result (IsFirstRule
+    requires knows { Knows (L.archive look.now).bodies reached.now }
+    requires known { Tells (IsWay (L.archive look.now).bodies reached.now.order.now name) (lookup (is_at (name_cmp name)) ways.old.entries) }
+    ensures rule { IfOk result (IsFirstRule
         (BreaksIn (L.archive look.now).bodies reached.now.root reached.now.order.now ⊥ ⊥) name) }
+    ensures ways { OnOk result (TellsOf (L.archive look.now).bodies name name.kind ways.old.entries ways.new.entries) }
 {
     match name.kind {
         Kind::Content => Ok(None),
-        Kind::Directory => rule_of_directory(alloc, look, reached, name),
+        Kind::Directory => rule_of_directory(alloc, look, reached, name, ways),
         Kind::Revision => rule_of_revision(alloc, look, name),
         Kind::Release => rule_of_release(alloc, look, reached, name),
         Kind::Snapshot => rule_of_snapshot(alloc, look, reached.root, name),
     }
 }
 
-/// The first rule that an object breaks, if it breaks one; the root breaks one where its stream loads too many branches.
+/// The first rule that an object breaks, if it breaks one, once all ways to it are known; the root breaks one where its
+/// stream loads too many branches.
 fn rule_of<L: Look>(
     alloc: Global,
     look: &L,
     reached: &Reached<'_>,
     name: Name,
+    ways: &mut BTreeMap<Name, u64>,
     many: bool,
 ) -> Result<Option<Why>, Memory>
-    requires { Knows (L.archive look.now).bodies reached.now }
-    ensures { IfOk result (IsFirstRule
+    requires knows { Knows (L.archive look.now).bodies reached.now }
+    requires known { Tells (IsWay (L.archive look.now).bodies reached.now.order.now name) (lookup (is_at (name_cmp name)) ways.old.entries) }
+    ensures rule { IfOk result (IsFirstRule
         (BreaksIn (L.archive look.now).bodies reached.now.root reached.now.order.now (IsTrue many) ⊥) name) }
+    ensures ways { OnOk result (TellsOf (L.archive look.now).bodies name name.kind ways.old.entries ways.new.entries) }
 {
-    if let Some(why) = rule_of_object(alloc, look, reached, name)? {
+    if let Some(why) = rule_of_object(alloc, look, reached, name, ways)? {
         return Ok(Some(why));
     }
     if many && is_same(name, reached.root) {
@@ -222,24 +268,43 @@ fn rule_of<L: Look>(
     Ok(None)
 }
 
-/// The first of these names that breaks a rule of streams, and the first rule that it breaks.
+/// What is found once the rule is known that a name breaks which stands before the others.
+fn found_with(name: Name, rule: Option<Why>, found: Option<(Name, Why)>) -> Option<(Name, Why)>
+    ensures some { IfSome rule (λ why. result ≡ Some (name, why)) }
+    ensures none { IfNone rule (result ≡ found) }
+{
+    match rule {
+        Some(why) => Some((name, why)),
+        None => found,
+    }
+}
+
+/// The first of the names of the order that breaks a rule of streams, and the first rule that it breaks. They are gone over
+/// from their end, where each directory stands behind those that lead to it, so all ways to it are known once it is read.
 fn first_in<L: Look>(
     alloc: Global,
     look: &L,
     reached: &Reached<'_>,
-    names: &[Name],
     many: bool,
 ) -> Result<Option<(Name, Why)>, Memory>
-    requires { Knows (L.archive look.now).bodies reached.now }
+    requires knows { Knows (L.archive look.now).bodies reached.now }
+    requires preceded { ArePreceded (L.children_of look.now) reached.now.order.now }
+    requires once { (n : Named) → Precedes reached.now.order.now n n → ⊥ }
     ensures { IfOk result (IsFirstFound
-        (BreaksIn (L.archive look.now).bodies reached.now.root reached.now.order.now (IsTrue many) ⊥) names.now) }
+        (BreaksIn (L.archive look.now).bodies reached.now.root reached.now.order.now (IsTrue many) ⊥) reached.now.order.now) }
 {
-    for name in names {
-        if let Some(why) = rule_of(alloc, look, reached, *name, many)? {
-            return Ok(Some((*name, why)));
-        }
+    look.is_graph();
+    let order = reached.order;
+    let roots = roots_of(alloc, look, order)?;
+    let mut ways = starts_of(alloc, roots.as_slice())?;
+    let mut found = None;
+    let mut left = order.len();
+    'names: while left > 0 {
+        left -= 1;
+        let rule = rule_of(alloc, look, reached, order[left], &mut ways, many)?;
+        found = found_with(order[left], rule, found);
     }
-    Ok(None)
+    Ok(found)
 }
 
 /// The first object that a stream cannot carry, of those that are reached from the root in this order, each once and behind
@@ -257,5 +322,5 @@ pub fn first_uncarried<L: Look>(
     ensures { IfOk result (IsFirstFound (BreaksIn (L.archive look.now).bodies root order.now (IsTrue many) ⊥) order.now) }
 {
     let reached = survey(alloc, look, order, root)?;
-    first_in(alloc, look, &reached, order, many)
+    first_in(alloc, look, &reached, many)
 }

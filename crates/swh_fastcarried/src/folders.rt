@@ -1,5 +1,5 @@
-//! Directories that are entries of others.
-ghost use Rattle.std.specs.Prelude.{◌≡◌, ◌↔◌, ◌⊎◌, IsTrue, OnOk, IfOk, IfSome, IfNone, Contains};
+//! Whether a directory is an entry of others.
+ghost use Rattle.std.specs.Prelude.{◌≡◌, ◌↔◌, IsTrue, IfOk, IfSome, IfNone};
 ghost use Rattle.swh_base.specs.declared.kind.Kind.TheVariants.{Directory as DirectoryKind};
 ghost use Rattle.swh_base.specs.declared.name.Name.{Name as Named};
 ghost use Rattle.swh_dirfmt.specs.Entries.{entry_of, entries_in_body};
@@ -7,7 +7,6 @@ ghost use Rattle.swh_fastcarried.specs.First.{IsFolderOf, IsOneOf, IsFolderAt};
 
 use std::alloc::Global;
 use swh_base::{Kind, Memory, Name};
-use swh_closure::Closed;
 use swh_dirfmt::SpelledEntry;
 use swh_graph::{GraphFault, directory_at};
 use swh_model::Look;
@@ -27,47 +26,45 @@ fn folder_of(entry: &SpelledEntry<'_>) -> Option<Name>
     })
 }
 
-/// Adds the directory of an entry, where that is a folder.
-fn add_folder(folders: &mut Closed, entry: &SpelledEntry<'_>) -> Result<(), Memory>
-    ensures { OnOk result ((n : Named) → Contains folders.new n
-        ↔ (Contains folders.old n ⊎ IsFolderOf (entry_of entry.now) n)) }
+/// Whether an entry is a folder, and the directory is its.
+fn leads_to(entry: &SpelledEntry<'_>, name: Name) -> bool
+    ensures { IsTrue result ↔ IsFolderOf (entry_of entry.now) name }
 {
     match folder_of(entry) {
-        Some(name) => folders.add(name),
-        None => Ok(()),
+        Some(folder) => folder == name,
+        None => false,
     }
 }
 
-/// Adds the directory of each of these entries that is a folder.
-fn add_folders(folders: &mut Closed, entries: &[SpelledEntry<'_>]) -> Result<(), Memory>
-    ensures { OnOk result ((n : Named) → Contains folders.new n
-        ↔ (Contains folders.old n ⊎ IsOneOf IsFolderOf (entries_in_body entries.now) n)) }
+/// Whether the directory is one of these entries.
+fn lead_to(entries: &[SpelledEntry<'_>], name: Name) -> bool
+    ensures { IsTrue result ↔ IsOneOf IsFolderOf (entries_in_body entries.now) name }
 {
     for entry in entries {
-        add_folder(folders, entry)?;
+        if leads_to(entry, name) {
+            return true;
+        }
     }
-    Ok(())
+    false
 }
 
-/// Adds the directories that are entries of a directory.
-fn add_of_directory<L: Look>(
+/// Whether the directory is an entry of another.
+fn is_in_directory<L: Look>(
     alloc: Global,
     look: &L,
+    parent: Name,
     name: Name,
-    folders: &mut Closed,
-) -> Result<(), Memory>
-    requires { name.kind ≡ DirectoryKind }
-    ensures { OnOk result ((n : Named) → Contains folders.new n
-        ↔ (Contains folders.old n ⊎ IsFolderAt (L.archive look.now).bodies name n)) }
+) -> Result<bool, Memory>
+    requires { parent.kind ≡ DirectoryKind }
+    ensures { IfOk result (λ is. IsTrue is ↔ IsFolderAt (L.archive look.now).bodies parent name) }
 {
-    let entries = match directory_at(alloc, look, name) {
+    let entries = match directory_at(alloc, look, parent) {
         Ok(entries) => entries,
         Err(GraphFault::Memory) => return Err(Memory),
-        Err(GraphFault::NotHeld { .. }) => return Ok(()),
+        Err(GraphFault::NotHeld { .. }) => return Ok(false),
         Err(GraphFault::NoPath { .. }) => unreachable!(),
     };
-    add_folders(folders, entries.as_slice())?;
-    Ok(())
+    Ok(lead_to(entries.as_slice(), name))
 }
 
 fn is_directory(kind: Kind) -> bool
@@ -79,25 +76,30 @@ fn is_directory(kind: Kind) -> bool
     }
 }
 
-/// Adds the directories that are entries of what is held under the name.
-fn add_of<L: Look>(alloc: Global, look: &L, name: Name, folders: &mut Closed) -> Result<(), Memory>
-    ensures { OnOk result ((n : Named) → Contains folders.new n
-        ↔ (Contains folders.old n ⊎ IsFolderAt (L.archive look.now).bodies name n)) }
+/// Whether the directory is an entry of what is held under the name of the parent.
+fn is_in<L: Look>(alloc: Global, look: &L, parent: Name, name: Name) -> Result<bool, Memory>
+    ensures { IfOk result (λ is. IsTrue is ↔ IsFolderAt (L.archive look.now).bodies parent name) }
 {
-    if is_directory(name.kind) {
-        return add_of_directory(alloc, look, name, folders);
+    if is_directory(parent.kind) {
+        return is_in_directory(alloc, look, parent, name);
     }
-    Ok(())
+    Ok(false)
 }
 
-/// The directories that are entries of one of these names.
-pub fn folders_of<L: Look>(alloc: Global, look: &L, order: &[Name]) -> Result<Closed, Memory>
-    ensures { IfOk result (λ folders. (n : Named) → Contains folders n
-        ↔ IsOneOf (IsFolderAt (L.archive look.now).bodies) order.now n) }
+/// Whether the directory is an entry of one of these names. It reads what is held under them, in their order, up to the
+/// first of which it is.
+pub fn is_folder<L: Look>(
+    alloc: Global,
+    look: &L,
+    order: &[Name],
+    name: Name,
+) -> Result<bool, Memory>
+    ensures { IfOk result (λ is. IsTrue is ↔ IsOneOf (IsFolderAt (L.archive look.now).bodies) order.now name) }
 {
-    let mut folders = Closed::new(alloc);
-    for name in order {
-        add_of(alloc, look, *name, &mut folders)?;
+    for parent in order {
+        if is_in(alloc, look, *parent, name)? {
+            return Ok(true);
+        }
     }
-    Ok(folders)
+    Ok(false)
 }

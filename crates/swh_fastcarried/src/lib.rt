@@ -14,11 +14,9 @@ mod plain;
 mod reached;
 mod roots;
 mod tagged;
-mod ways;
 
 pub use branches::{have_odd_branch, is_at_own_branch};
 pub use directories::have_dots;
 pub use first::first_uncarried;
-pub use folders::folders_of;
+pub use folders::is_folder;
 pub use tagged::tagged_of;
-pub use ways::ways_of;

@@ -1,30 +1,21 @@
 //! What is known of all that is reached from a root.
-ghost use Rattle.std.specs.Prelude.{◌≡◌, IfOk};
-ghost use Rattle.swh_base.specs.declared.name.Name.{Name as Named};
-ghost use Rattle.swh_postorder.specs.Cycle.{ArePreceded};
-ghost use Rattle.swh_postorder.specs.Postorder.{Precedes};
+ghost use Rattle.std.specs.Prelude.{◌≡◌, ◌↔◌, IfOk, Contains};
 ghost use Rattle.swh_base.specs.declared.kind.Kind.TheVariants.{Release as ReleaseKind, Snapshot as SnapshotKind};
-ghost use Rattle.std.specs.Prelude.{◌↔◌, Contains};
+ghost use Rattle.swh_base.specs.declared.name.Name.{Name as Named};
 ghost use Rattle.swh_fastcarried.specs.Rules.{StandsAtBranch};
 ghost use Rattle.swh_fastcarried.specs.Known.{Knows};
 
-use crate::folders::folders_of;
 use crate::tagged::tagged_of;
-use crate::ways::ways_of;
 use std::alloc::Global;
-use std::collections::BTreeMap;
 use swh_base::{Kind, Memory, Name};
 use swh_closure::Closed;
 use swh_model::Look;
 
-/// A root, the names that are reached from it in their order, and what is known of them: the directories that are entries
-/// of others, how long the paths to each directory are, and the releases that stand at their own branch of the root.
+/// A root, the names that are reached from it in their order, and the releases that stand at their own branch of the root.
 #[derive(Drop)]
 pub(crate) struct Reached<'a> {
     pub(crate) root: Name,
     pub(crate) order: &'a [Name],
-    pub(crate) folders: Closed,
-    pub(crate) ways: BTreeMap<Name, u64>,
     pub(crate) tagged: Closed,
 }
 
@@ -39,27 +30,21 @@ fn tags_of<L: Look>(alloc: Global, look: &L, root: Name) -> Result<Closed, Memor
     }
 }
 
-/// What is known of names that are reached from a root, each of which stands once and behind its children.
+/// What is known of names that are reached from a root.
 pub(crate) fn survey<'a, L: Look>(
     alloc: Global,
     look: &L,
     order: &'a [Name],
     root: Name,
 ) -> Result<Reached<'a>, Memory>
-    requires preceded { ArePreceded (L.children_of look.now) order.now }
-    requires once { (n : Named) → Precedes order.now n n → ⊥ }
     ensures knows { IfOk result (Knows (L.archive look.now).bodies) }
     ensures root { IfOk result (λ r. r.root ≡ root) }
     ensures order { IfOk result (λ r. r.order.now ≡ order.now) }
 {
-    let folders = folders_of(alloc, look, order)?;
-    let ways = ways_of(alloc, look, order)?;
     let tagged = tags_of(alloc, look, root)?;
     Ok(Reached {
         root,
         order,
-        folders,
-        ways,
         tagged,
     })
 }

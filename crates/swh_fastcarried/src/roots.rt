@@ -1,5 +1,5 @@
 //! Directories of revisions.
-ghost use Rattle.std.specs.Prelude.{◌≡◌, ◌↔◌, ◌⊎◌, IsTrue, OnOk, IfOk, Contains};
+ghost use Rattle.std.specs.Prelude.{◌≡◌, ◌↔◌, ◌⊎◌, OnOk, IfOk, IfSome, IfNone, Contains};
 ghost use Rattle.swh_base.specs.declared.kind.Kind.TheVariants.{Revision as RevisionKind};
 ghost use Rattle.swh_base.specs.declared.name.Name.{Name as Named};
 ghost use Rattle.swh_fastcarried.specs.First.{IsRootAt};
@@ -7,60 +7,58 @@ ghost use Rattle.swh_fastcarried.specs.Rules.{IsRevisionRoot};
 
 use std::alloc::Global;
 use swh_base::{Kind, Memory, Name};
-use swh_closure::Closed;
-use swh_graph::{GraphFault, revision_at};
 use swh_model::Look;
 
-/// Adds the directory of a revision.
-fn add_of_revision<L: Look>(
-    alloc: Global,
-    look: &L,
-    name: Name,
-    roots: &mut Closed,
-) -> Result<(), Memory>
+/// The directory of a revision that is held under the name: the first of its children.
+fn directory_of<L: Look>(look: &L, name: Name) -> Option<Name>
     requires { name.kind ≡ RevisionKind }
-    ensures { OnOk result ((n : Named) → Contains roots.new n
-        ↔ (Contains roots.old n ⊎ IsRootAt (L.archive look.now).bodies name n)) }
+    ensures some { IfSome result (IsRootAt (L.archive look.now).bodies name) }
+    ensures none { IfNone result ((n : Named) → IsRootAt (L.archive look.now).bodies name n → ⊥) }
 {
-    let revision = match revision_at(alloc, look, name) {
-        Ok(revision) => revision,
-        Err(GraphFault::Memory) => return Err(Memory),
-        Err(GraphFault::NotHeld { .. }) => return Ok(()),
-        Err(GraphFault::NoPath { .. }) => unreachable!(),
+    look.is_graph();
+    let Some(kids) = look.children_of(&name) else {
+        return None;
     };
-    let kind = Kind::Directory;
-    let id = revision.directory;
-    roots.add(Name { kind, id })
+    let Some((first, _)) = kids.split_first() else {
+        return None;
+    };
+    Some(*first)
 }
 
-fn is_revision(kind: Kind) -> bool
-    ensures { IsTrue result ↔ (kind ≡ RevisionKind) }
+/// The directory of what is held under the name, where that is a revision.
+fn root_of<L: Look>(look: &L, name: Name) -> Option<Name>
+    ensures some { IfSome result (IsRootAt (L.archive look.now).bodies name) }
+    ensures none { IfNone result ((n : Named) → IsRootAt (L.archive look.now).bodies name n → ⊥) }
 {
-    match kind {
-        Kind::Revision => true,
-        Kind::Content | Kind::Directory | Kind::Release | Kind::Snapshot => false,
+    match name.kind {
+        Kind::Revision => directory_of(look, name),
+        Kind::Content | Kind::Directory | Kind::Release | Kind::Snapshot => None,
     }
 }
 
 /// Adds the directory of what is held under the name, where that is a revision.
-fn add_of<L: Look>(alloc: Global, look: &L, name: Name, roots: &mut Closed) -> Result<(), Memory>
-    ensures { OnOk result ((n : Named) → Contains roots.new n
-        ↔ (Contains roots.old n ⊎ IsRootAt (L.archive look.now).bodies name n)) }
+fn add_of<L: Look>(look: &L, name: Name, roots: &mut Vec<Name>) -> Result<(), Memory>
+    ensures { OnOk result ((n : Named) → Contains roots.new.items n
+        ↔ (Contains roots.old.items n ⊎ IsRootAt (L.archive look.now).bodies name n)) }
 {
-    if is_revision(name.kind) {
-        return add_of_revision(alloc, look, name, roots);
+    if let Some(root) = root_of(look, name) {
+        roots.push(root)?;
     }
     Ok(())
 }
 
-/// The directories of those of these names that are revisions.
-pub(crate) fn roots_of<L: Look>(alloc: Global, look: &L, order: &[Name]) -> Result<Closed, Memory>
-    ensures { IfOk result (λ roots. (n : Named) → Contains roots n
+/// The directories of those of these names that are revisions, one for each revision.
+pub(crate) fn roots_of<L: Look>(
+    alloc: Global,
+    look: &L,
+    order: &[Name],
+) -> Result<Vec<Name>, Memory>
+    ensures { IfOk result (λ roots. (n : Named) → Contains roots.items n
         ↔ IsRevisionRoot (L.archive look.now).bodies order.now n) }
 {
-    let mut roots = Closed::new(alloc);
+    let mut roots = Vec::new(alloc);
     for name in order {
-        add_of(alloc, look, *name, &mut roots)?;
+        add_of(look, *name, &mut roots)?;
     }
     Ok(roots)
 }

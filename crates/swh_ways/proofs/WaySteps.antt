@@ -250,6 +250,10 @@ module _ (bodies : Bodies) (children_of : Name → Option (List Name)) (graph : 
           subst (λ (l : List Name). TellAll (ComesFrom bodies starts l) new) (sym drop_at)
           (told (take i order) (drop (i + 1) order) (get_or order i none) (sym (take-append-drop i order) ∙ ap (λ (l : List Name). take i order ++ l) drop_at) old new all tells)
 
+      -- what is told of the name at the place, once all behind it have told of their steps
+      pub here_at : TellAll (ComesFrom bodies starts (drop (i + 1) order)) old → Tells (IsWay bodies starts (get_or order i none)) (lookup (is_at (name_cmp (get_or order i none))) old)
+      here_at all = ways_here (take i order) (drop (i + 1) order) (get_or order i none) (sym (take-append-drop i order) ∙ ap (λ (l : List Name). take i order ++ l) drop_at) old new all
+
     pub all_told : (entries : List (Name × ℕ)) → TellAll (ComesFrom bodies starts order) entries → TellAll (IsWay bodies starts) entries
     all_told entries all = all_same (ComesFrom bodies starts order) (IsWay bodies starts) (λ n c is. from_names order n c is) to_order entries all
 

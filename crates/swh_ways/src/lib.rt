@@ -9,4 +9,4 @@ mod long;
 mod ways;
 
 pub use long::{have_long, way_over};
-pub use ways::{way_to, ways_from};
+pub use ways::{raise_over_all, starts_of, way_to, ways_from};

@@ -80,7 +80,7 @@ fn raise_over(
 }
 
 /// Notes that a way goes on over each of these entries that is a folder.
-fn raise_over_all(
+pub fn raise_over_all(
     ways: &mut BTreeMap<Name, u64>,
     way: u64,
     entries: &[SpelledEntry<'_>],
@@ -132,7 +132,7 @@ fn tell<L: Look>(
 }
 
 /// The ways of no bytes to where they start.
-fn starts_of(alloc: Global, starts: &[Name]) -> Result<BTreeMap<Name, u64>, Memory>
+pub fn starts_of(alloc: Global, starts: &[Name]) -> Result<BTreeMap<Name, u64>, Memory>
     ensures { IfOk result (λ ways. TellAll (IsStart starts.now) ways.entries) }
 {
     let mut ways = BTreeMap::new(alloc);

@@ -5,4 +5,4 @@ use Rattle.swh_fastcarried.specs.First.{IsOneOf, IsRootAt}
 use Rattle.swh_fastcarried.proofs.roots.roots_of.Given as goal
 
 abbrev pub invariant-loop-name : goal.invariant-loop-name
-invariant-loop-name g l = (n : Name) → Contains l.roots n ↔ (Contains [] n ⊎ IsOneOf (IsRootAt (g.L.Look.archive l.look).bodies) (take l.name-index l.order) n)
+invariant-loop-name g l = (n : Name) → Contains l.roots.items n ↔ (Contains [] n ⊎ IsOneOf (IsRootAt (g.L.Look.archive l.look).bodies) (take l.name-index l.order) n)
