@@ -8,6 +8,7 @@
 mod cycles;
 mod fault;
 mod laws;
+mod places;
 mod walk;
 mod walking;
 

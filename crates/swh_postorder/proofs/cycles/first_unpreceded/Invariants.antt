@@ -2,7 +2,7 @@ use Rattle.std.specs.Prelude.{Contains, ◌↔◌}
 use Rattle.std.proofs.Common.{take}
 use Rattle.swh_base.specs.declared.name.Name.{Name}
 use Rattle.swh_postorder.specs.Cycle.{ArePreceded}
-use Rattle.swh_postorder.proofs.cycles.first_on_cycle.Given as goal
+use Rattle.swh_postorder.proofs.cycles.first_unpreceded.Given as goal
 
 abbrev pub invariant-loop-name : goal.invariant-loop-name
 invariant-loop-name g l = record {

@@ -1,0 +1,117 @@
+//! Where names stand in a list: a name that is looked for is mostly found at once.
+ghost use Rattle.std.specs.Prelude.{◌<◌, ◌^◌, ◌↔◌, ◌≡◌, IsTrue, Contains};
+ghost use Rattle.swh_postorder.specs.declared.places.Seen.TheVariants.{Here as SeenHere};
+
+use std::alloc::Global;
+use swh_base::Name;
+
+/// How many slots are tried for a name. Ids that no stranger has chosen need a few.
+const TRIES: usize = 128;
+
+/// What a slot tells of a name.
+#[derive(Clone, Copy, Debug, PartialEq, Eq)]
+pub enum Seen {
+    Here,
+    Other,
+    Nothing,
+}
+
+/// The places of names in a list, in slots by the first bytes of their ids: one more than the place, or zero for none.
+/// Whatever a slot tells is looked at before it is believed. So where names that strangers have chosen take each other's
+/// slots, or there is no memory for slots, a name is not found, which costs time alone.
+#[derive(Drop)]
+pub struct Places {
+    slots: Vec<u32>,
+}
+
+fn is_same(a: &Name, b: &Name) -> bool
+    ensures { IsTrue result ↔ (a.now ≡ b.now) }
+{
+    a == b
+}
+
+/// The number of the first four bytes of a name's id.
+fn number_of(name: &Name) -> usize
+    ensures { result < 2 ^ 32 }
+{
+    u32::from_le_bytes([name.id[0], name.id[1], name.id[2], name.id[3]]) as usize
+}
+
+impl Places {
+    /// Slots for the places of so many names.
+    pub fn new(alloc: Global, count: usize) -> Places {
+        let mut slots = Vec::new(alloc);
+        let _ = slots.resize(count.saturating_mul(2), 0);
+        Places { slots }
+    }
+
+    /// The slot of a number, if there are any.
+    fn slot(&self, number: usize) -> Option<usize> {
+        number.checked_rem(self.slots.len())
+    }
+
+    /// What the slot of a number tells of a name among these.
+    fn see(&self, names: &[Name], name: &Name, number: usize) -> Seen
+        ensures { result ≡ SeenHere → Contains names.now name.now }
+    {
+        let Some(slot) = self.slot(number) else {
+            return Seen::Nothing;
+        };
+        let Some(mark) = self.slots.get(slot) else {
+            return Seen::Nothing;
+        };
+        let Some(place) = mark.checked_sub(1) else {
+            return Seen::Nothing;
+        };
+        match names.get(place as usize) {
+            Some(found) if is_same(found, name) => Seen::Here,
+            _ => Seen::Other,
+        }
+    }
+
+    /// Whether a name was found among these. Where it was not, it may be there all the same.
+    pub fn lead(&self, names: &[Name], name: &Name) -> bool
+        ensures { IsTrue result → Contains names.now name.now }
+    {
+        let number = number_of(name);
+        for step in 0..TRIES {
+            match self.see(names, name, number + step) {
+                Seen::Here => return true,
+                Seen::Nothing => return false,
+                Seen::Other => {}
+            }
+        }
+        false
+    }
+
+    /// Puts a mark into the slot of a number, if that is empty; answers whether it was.
+    fn put(&mut self, number: usize, mark: u32) -> bool {
+        let Some(slot) = self.slot(number) else {
+            return false;
+        };
+        let Some(there) = self.slots.get_mut(slot) else {
+            return false;
+        };
+        if *there != 0 {
+            return false;
+        }
+        *there = mark;
+        true
+    }
+
+    /// Remembers the place of a name.
+    pub fn note(&mut self, name: &Name, place: usize) {
+        let Ok(place) = u32::try_from(place) else {
+            return;
+        };
+        let Some(mark) = place.checked_add(1) else {
+            return;
+        };
+        let number = number_of(name);
+        for step in 0..TRIES {
+            if self.put(number + step, mark) {
+                return;
+            }
+        }
+    }
+}
