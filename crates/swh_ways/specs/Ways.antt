@@ -94,7 +94,7 @@ pub record RaisesOver (way : ℕ) (entry : DirectoryEntry) (old new : List (Name
   pub folder : entry.mode ≡ 40000 → (over : ℕ) × (over ≤ way + (length entry.name + 1)) × ((way + (length entry.name + 1) ≤ over) ⊎ (path_limit < over)) × Raises (folder_name entry.id) over old new
   pub other : (entry.mode ≡ 40000 → ⊥) → new ≡ old
 
--- the same over each of these entries
+-- The way goes on over each of these entries in turn, where that is a folder.
 abbrev pub RaisesOverAll : ℕ → List DirectoryEntry → List (Name × ℕ) → List (Name × ℕ) → Type 0
 RaisesOverAll way [] old new = new ≡ old
 RaisesOverAll way (e ∷ es) old new = (middle : List (Name × ℕ)) × RaisesOver way e old middle × RaisesOverAll way es middle new
@@ -106,7 +106,7 @@ module _ (bodies : Bodies) where
   TellsOfFolders name (Some way) old new =
       ((entries : List DirectoryEntry) × HoldsDirectory bodies name entries × RaisesOverAll way entries old new) ⊎ ((body_of bodies name ≡ None) × (new ≡ old))
 
-  -- what a name of this kind tells of
+  -- What a name of this kind tells of: only a directory tells of ways over its folders.
   abbrev pub TellsOf : Name → Kind → List (Name × ℕ) → List (Name × ℕ) → Type 0
   TellsOf name Content old new = new ≡ old
   TellsOf name DirectoryKind old new = TellsOfFolders name (lookup (is_at (name_cmp name)) old) old new
