@@ -6,3 +6,4 @@ pub mod MappedMaps
 pub mod Tags
 pub mod SnapshotKids
 pub mod Overs
+pub mod MarkLists

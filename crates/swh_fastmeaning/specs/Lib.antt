@@ -3,6 +3,7 @@ pub mod Changes
 pub mod Commands
 pub mod Ending
 pub mod Feeding
+pub mod Marks
 pub mod Missings
 pub mod Parting
 pub mod Snapshots

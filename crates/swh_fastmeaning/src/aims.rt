@@ -6,6 +6,7 @@ ghost use Rattle.swh_fastmeaning.specs.Ending.{Ascend, AreSides};
 ghost use Rattle.swh_fastmeaning.specs.Snapshots.{tip_branch};
 ghost use Rattle.swh_fastmeaning.specs.Tips.{aim_of, tip_of};
 
+use crate::marks::Marks;
 use crate::sides::{Sides, no_sides, with_branch};
 use std::alloc::Global;
 use std::collections::BTreeMap;
@@ -24,7 +25,7 @@ pub struct Target {
 /// What the marks and the refs with a tip lead to. A later setting replaces an earlier one.
 #[derive(Drop)]
 pub struct MarksAndTips {
-    marks: BTreeMap<u64, Target>,
+    marks: Marks,
     tips: BTreeMap<Vec<u8>, Target>,
 }
 
@@ -35,7 +36,7 @@ impl Model for MarksAndTips {
 
     ghost Value = { AllAims Tree };
 
-    ghost view = { λ a. aims_of a.marks.entries a.tips.entries };
+    ghost view = { λ a. aims_of a.marks a.tips.entries };
 }
 
 /// The target, where it is a commit.
@@ -82,7 +83,7 @@ impl MarksAndTips {
         ensures { result ≡ no_aims }
     {
         MarksAndTips {
-            marks: BTreeMap::new(alloc),
+            marks: Marks::new(alloc),
             tips: BTreeMap::new(alloc),
         }
     }
@@ -91,7 +92,7 @@ impl MarksAndTips {
     pub fn mark(&self, mark: u64) -> Option<Target>
         ensures { option_map aim_of result ≡ mark_at mark self.now }
     {
-        self.marks.get(&mark).copied()
+        self.marks.get(mark)
     }
 
     /// The tip of a ref.
@@ -106,10 +107,7 @@ impl MarksAndTips {
         ensures ok { OnOk result (self.new ≡ with_mark mark (aim_of target) self.old) }
     {
         match mark {
-            Some(mark) => {
-                self.marks.insert(mark, target)?;
-                Ok(())
-            }
+            Some(mark) => self.marks.set(mark, target),
             None => Ok(()),
         }
     }

@@ -13,6 +13,7 @@ mod feed_fault;
 mod giving;
 mod laws;
 mod lookups;
+mod marks;
 mod parts;
 mod sides;
 

@@ -39,7 +39,7 @@ pub fn give_all<N: Namer>(
     requires ready { AreReady N.id_of seen.old (made objects.items) }
     ensures { IfOk result (λ os. Gives N.id_of (made objects.items) seen.old seen.new os.items) }
 {
-    let mut out = Vec::new(alloc);
+    let mut out = Vec::with_capacity(alloc, objects.len())?;
     for object in objects {
         give(alloc, seen, object, &mut out)?;
     }

@@ -12,6 +12,6 @@ use Rattle.swh_fastmeaning.proofs.aims.MarksAndTips.drop_tip.Goals as goal
 pub returns : goal.returns
 returns c =
     let inside = c.self.inside in
-    ap (aims_of inside.marks.entries) c.remove.ensures.entries
-    ∙ ap (λ (t : List (List ℕ × Aim Tree)). let a : AllAims Tree = record { marks = (aims_of inside.marks.entries inside.tips.entries).marks; tips = t } in a) (sym (remove-mapped (λ (k : Vec ℕ). k.items) aim_of (is_at (slice_cmp nat_cmp c.args.branch.now)) inside.tips.entries))
+    ap (aims_of inside.marks) c.remove.ensures.entries
+    ∙ ap (λ (t : List (List ℕ × Aim Tree)). let a : AllAims Tree = record { marks = (aims_of inside.marks inside.tips.entries).marks; tips = t } in a) (sym (remove-mapped (λ (k : Vec ℕ). k.items) aim_of (is_at (slice_cmp nat_cmp c.args.branch.now)) inside.tips.entries))
     ∙ ap (without_tip c.args.branch.now) c.self.view_is

@@ -9,6 +9,6 @@ use Rattle.swh_fastmeaning.proofs.aims.MarksAndTips.mark.Goals as goal
 
 pub returns : goal.returns
 returns c =
-    ap (option_map aim_of) (c.copied.ensures ∙ c.get.ensures.value)
-    ∙ sym (lookup-mapped (λ (k : ℕ). k) aim_of (is_at (nat_cmp c.args.mark)) c.self.inside.marks.entries)
+    ap (option_map aim_of) c.get.ensures
+    ∙ sym (lookup-mapped (λ (k : ℕ). k) aim_of (is_at (nat_cmp c.args.mark)) c.self.inside.marks)
     ∙ ap (mark_at c.args.mark) c.self.view_is

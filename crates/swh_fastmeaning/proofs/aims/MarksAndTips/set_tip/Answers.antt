@@ -13,8 +13,8 @@ returns c =
     let inside = c.self.inside in
     let branch = c.args.branch.now in
     record {
-      ok = ap (aims_of inside.marks.entries) c.in_ok-insert.ensures.entries
-          ∙ ap (λ (t : List (List ℕ × Aim Tree)). let a : AllAims Tree = record { marks = (aims_of inside.marks.entries inside.tips.entries).marks; tips = t } in a) (sym (insert-mapped (λ (k : Vec ℕ). k.items) aim_of (slice_cmp nat_cmp) inside.tips.entries c.in_ok-from_slice.field-0 c.args.target))
-          ∙ ap (λ (b : List ℕ). with_tip b (aim_of c.args.target) (aims_of inside.marks.entries inside.tips.entries)) c.in_ok-from_slice.ensures.items
+      ok = ap (aims_of inside.marks) c.in_ok-insert.ensures.entries
+          ∙ ap (λ (t : List (List ℕ × Aim Tree)). let a : AllAims Tree = record { marks = (aims_of inside.marks inside.tips.entries).marks; tips = t } in a) (sym (insert-mapped (λ (k : Vec ℕ). k.items) aim_of (slice_cmp nat_cmp) inside.tips.entries c.in_ok-from_slice.field-0 c.args.target))
+          ∙ ap (λ (b : List ℕ). with_tip b (aim_of c.args.target) (aims_of inside.marks inside.tips.entries)) c.in_ok-from_slice.ensures.items
           ∙ ap (with_tip branch (aim_of c.args.target)) c.self.view_is;
     }
