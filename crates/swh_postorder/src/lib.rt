@@ -18,4 +18,5 @@ pub use laws::{
     children_precede, missing_names_are_reached, one_missing, one_postorder, order_is_reached,
     order_or_missing,
 };
+pub use places::Places;
 pub use walking::postorder;

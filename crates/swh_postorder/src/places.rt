@@ -1,5 +1,5 @@
 //! Where names stand in a list: a name that is looked for is mostly found at once.
-ghost use Rattle.std.specs.Prelude.{◌<◌, ◌^◌, ◌↔◌, ◌≡◌, IsTrue, Contains};
+ghost use Rattle.std.specs.Prelude.{◌<◌, ◌^◌, ◌↔◌, ◌≡◌, ℕ, IsTrue, IfSome, Contains, length, get_or};
 ghost use Rattle.swh_postorder.specs.declared.places.Seen.TheVariants.{Here as SeenHere};
 
 use std::alloc::Global;
@@ -10,8 +10,8 @@ const TRIES: usize = 128;
 
 /// What a slot tells of a name.
 #[derive(Clone, Copy, Debug, PartialEq, Eq)]
-pub enum Seen {
-    Here,
+pub(crate) enum Seen {
+    Here { place: usize },
     Other,
     Nothing,
 }
@@ -45,6 +45,28 @@ impl Places {
         Places { slots }
     }
 
+    /// Slots for twice as many names, which begin with these. Where memory runs out the old ones stay.
+    fn renew(&mut self, names: &[Name]) {
+        let mut slots = Vec::new(*self.slots.allocator());
+        if slots.resize(names.len().saturating_mul(4), 0).is_err() {
+            return;
+        }
+        self.slots = slots;
+        for (place, name) in names.iter().enumerate() {
+            self.note(name, place);
+        }
+    }
+
+    /// Remembers the place of the last of these names, where it remembered those of the others.
+    pub fn follow(&mut self, names: &[Name]) {
+        if self.slots.len() < names.len().saturating_mul(2) {
+            return self.renew(names);
+        }
+        if let Some((name, others)) = names.split_last() {
+            self.note(name, others.len());
+        }
+    }
+
     /// The slot of a number, if there are any.
     fn slot(&self, number: usize) -> Option<usize> {
         number.checked_rem(self.slots.len())
@@ -52,7 +74,8 @@ impl Places {
 
     /// What the slot of a number tells of a name among these.
     fn see(&self, names: &[Name], name: &Name, number: usize) -> Seen
-        ensures { result ≡ SeenHere → Contains names.now name.now }
+        ensures { (place : ℕ) → result ≡ SeenHere place
+            → (place < length names.now) × (name.now ≡ get_or names.now place name.now) }
     {
         let Some(slot) = self.slot(number) else {
             return Seen::Nothing;
@@ -63,25 +86,36 @@ impl Places {
         let Some(place) = mark.checked_sub(1) else {
             return Seen::Nothing;
         };
-        match names.get(place as usize) {
-            Some(found) if is_same(found, name) => Seen::Here,
+        let place = place as usize;
+        match names.get(place) {
+            Some(found) if is_same(found, name) => Seen::Here { place },
             _ => Seen::Other,
         }
+    }
+
+    /// The place among these where a name was found. Where it was not, it may be there all the same.
+    pub fn find(&self, names: &[Name], name: &Name) -> Option<usize>
+        ensures { IfSome result (λ place. (place < length names.now) × (name.now ≡ get_or names.now place name.now)) }
+    {
+        let number = number_of(name);
+        for step in 0..TRIES {
+            match self.see(names, name, number + step) {
+                Seen::Here { place } => return Some(place),
+                Seen::Nothing => return None,
+                Seen::Other => {}
+            }
+        }
+        None
     }
 
     /// Whether a name was found among these. Where it was not, it may be there all the same.
     pub fn lead(&self, names: &[Name], name: &Name) -> bool
         ensures { IsTrue result → Contains names.now name.now }
     {
-        let number = number_of(name);
-        for step in 0..TRIES {
-            match self.see(names, name, number + step) {
-                Seen::Here => return true,
-                Seen::Nothing => return false,
-                Seen::Other => {}
-            }
+        match self.find(names, name) {
+            Some(_) => true,
+            None => false,
         }
-        false
     }
 
     /// Puts a mark into the slot of a number, if that is empty; answers whether it was.

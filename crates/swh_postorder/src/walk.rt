@@ -1,6 +1,7 @@
 //! How far a walk has come.
 ghost use Rattle.std.specs.Prelude.{◌≡◌, []};
 
+use crate::places::Places;
 use std::alloc::Global;
 use swh_base::Name;
 use swh_closure::Closed;
@@ -13,12 +14,13 @@ pub struct Frame<'a> {
 }
 
 /// The names that were entered; the frames of those that were not left, each inside of the one before; and the names that
-/// were left, in their order.
+/// were left, in their order, with their places in it.
 #[derive(Drop)]
 pub struct Walk<'a> {
     pub entered: Closed,
     pub frames: Vec<Frame<'a>>,
     pub left: Vec<Name>,
+    pub places: Places,
 }
 
 impl<'a> Walk<'a> {
@@ -31,6 +33,7 @@ impl<'a> Walk<'a> {
             entered: Closed::new(alloc),
             frames: Vec::new(alloc),
             left: Vec::new(alloc),
+            places: Places::new(alloc, 0),
         }
     }
 }

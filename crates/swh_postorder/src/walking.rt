@@ -1,6 +1,7 @@
 //! The walk itself: a stack of frames in place of a recursion.
-ghost use Rattle.std.specs.Prelude.{◌≡◌, None, IfOk, IfErr, IfSome, IfNone, OnOk, Contains};
+ghost use Rattle.std.specs.Prelude.{◌≡◌, ◌↔◌, ◌++◌, ◌∷◌, [], IsTrue, None, IfOk, IfErr, IfSome, IfNone, OnOk, Contains};
 ghost use Rattle.swh_base.specs.declared.name.Name.{Name};
+ghost use Rattle.swh_postorder.specs.declared.fault.OrderFault.TheVariants.{Memory as OutOfMemory};
 ghost use Rattle.swh_postorder.specs.Postorder.{IsPostorder};
 ghost use Rattle.swh_postorder.specs.Walk.{
   HasEntered,
@@ -17,13 +18,25 @@ use std::alloc::Global;
 use swh_base::{Graph, Name};
 use swh_closure::Closed;
 
+/// Whether a name was entered. One that was left is mostly found at once.
+fn was_entered(walk: &Walk<'_>, name: &Name) -> bool
+    requires { (n : Name) → Contains walk.now.left.items n → Contains walk.now.entered n }
+    ensures { IsTrue result ↔ Contains walk.now.entered name.now }
+{
+    if walk.places.lead(walk.left.as_slice(), name) {
+        return true;
+    }
+    walk.entered.contains(name)
+}
+
 /// The first of these names that was not entered, and those behind it.
-fn first_fresh<'a>(entered: &Closed, names: &'a [Name]) -> Option<(Name, &'a [Name])>
-    ensures some { IfSome result (λ x. IsFirstFresh entered.now names.now x.0 x.1.now) }
-    ensures none { IfNone result ((n : Name) → Contains names.now n → Contains entered.now n) }
+fn first_fresh<'a>(walk: &Walk<'_>, names: &'a [Name]) -> Option<(Name, &'a [Name])>
+    requires { (n : Name) → Contains walk.now.left.items n → Contains walk.now.entered n }
+    ensures some { IfSome result (λ x. IsFirstFresh walk.now.entered names.now x.0 x.1.now) }
+    ensures none { IfNone result ((n : Name) → Contains names.now n → Contains walk.now.entered n) }
 {
     for (place, name) in names.iter().enumerate() {
-        if !entered.contains(name) {
+        if !was_entered(walk, name) {
             return Some((*name, &names[place + 1..]));
         }
     }
@@ -44,15 +57,27 @@ fn enter<'a, G: Graph>(graph: &'a G, walk: &mut Walk<'a>, name: Name) -> Result<
     Ok(())
 }
 
+/// Leaves a name.
+fn leave(walk: &mut Walk<'_>, name: Name) -> Result<(), OrderFault>
+    ensures left { OnOk result (walk.new.left.items ≡ walk.old.left.items ++ name ∷ []) }
+    ensures frames { walk.new.frames ≡ walk.old.frames }
+    ensures entered { walk.new.entered ≡ walk.old.entered }
+    ensures err { IfErr result (λ fault. fault ≡ OutOfMemory) }
+{
+    walk.left.push(name)?;
+    walk.places.follow(walk.left.as_slice());
+    Ok(())
+}
+
 /// Goes on with the frame that stood on top: enters the first of its children that was not entered, or leaves its name
 /// where there is none.
 fn go_on<'a, G: Graph>(graph: &'a G, walk: &mut Walk<'a>, top: Frame<'a>) -> Result<(), OrderFault>
+    requires { (n : Name) → Contains walk.old.left.items n → Contains walk.old.entered n }
     ensures ok { OnOk result (GoesOn (G.children_of graph.now) top.entry walk.old walk.new) }
     ensures err { IfErr result (CannotGoOn (G.children_of graph.now) top.entry walk.old) }
 {
-    let Some((name, kids)) = first_fresh(&walk.entered, top.kids) else {
-        walk.left.push(top.name)?;
-        return Ok(());
+    let Some((name, kids)) = first_fresh(walk, top.kids) else {
+        return leave(walk, top.name);
     };
     let rest = Frame {
         name: top.name,

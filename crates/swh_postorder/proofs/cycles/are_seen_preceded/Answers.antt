@@ -1,4 +1,4 @@
-use Rattle.std.proofs.Common.{List, [], ◌++◌, ◌∷◌, take, get_or, sym, subst}
+use Rattle.std.proofs.Common.{[], take, get_or, sym, subst}
 use Rattle.std.proofs.lemmas.List.{take_more, take_all}
 use Rattle.swh_base.specs.declared.kind.Kind.TheVariants.{Content}
 use Rattle.swh_base.specs.declared.name.Name.{Name}

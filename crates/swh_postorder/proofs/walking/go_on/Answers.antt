@@ -9,8 +9,8 @@ pub returns-clause-ok : goal.returns-clause-ok
 returns-clause-ok g c =
     let rest : Frame = record { name = c.args.top.name; kids = c.in-Some.kids } in
     on_ok_weaker c.enter.result
-    (goes_in_child (g.G.Graph.children_of c.args.graph.now) c.args.top c.args.walk.now (record { entered = c.args.walk.now.entered; frames = c.push-2.new.self; left = c.args.walk.now.left }) c.enter.new.walk rest c.in-Some.name
-    c.in-Some.ensures.some refl c.in_ok-push-2.ensures.items refl refl) c.enter.ensures.ok
+    (goes_in_child (g.G.Graph.children_of c.args.graph.now) c.args.top c.args.walk.now (record { entered = c.args.walk.now.entered; frames = c.push.new.self; left = c.args.walk.now.left; places = c.args.walk.now.places }) c.enter.new.walk rest c.in-Some.name
+    c.in-Some.ensures.some refl c.in_ok-push.ensures.items refl refl) c.enter.ensures.ok
 
 pub returns-clause-err : goal.returns-clause-err
 returns-clause-err g c =

@@ -1,4 +1,4 @@
-use Rattle.std.proofs.Common.{ℕ, ◌-◌, List, [], ◌++◌, take, ap, ◌∙◌, arith}
+use Rattle.std.proofs.Common.{inr, ℕ, ◌-◌, List, [], ◌++◌, take, ap, ◌∙◌, arith}
 use Rattle.swh_postorder.specs.declared.walk.Frame.{Frame}
 use Rattle.swh_postorder.specs.declared.walk.Walk.{Walk}
 use Rattle.swh_postorder.proofs.Walks.{entered_root, cannot_enter_root, cannot_go_on, refused, walk_goes_on, walk_ends}
@@ -19,13 +19,13 @@ returns-in_default-clause-ok g c =
 
 pub returns-in_err-go_on-clause-err : goal.returns-in_err-go_on-clause-err
 returns-in_err-go_on-clause-err g c =
-    let old : Walk = record { entered = c.loop-round.walk.entered; frames = c.pop.new.self; left = c.loop-round.walk.left } in
+    let old : Walk = record { entered = c.loop-round.walk.entered; frames = c.pop.new.self; left = c.loop-round.walk.left; places = c.loop-round.walk.places } in
     refused c.from_residual-in_err-go_on.result _ _ c.from_residual-in_err-go_on.ensures.1
     (cannot_go_on (g.G.Graph.children_of c.args.graph.now) c.args.root c.in-Some.top old c.loop-round.walk.frames.items c.loop-round._round c.in-Some.ensures.items c.loop-round.invariant c.in_err-go_on.field-0.0 c.in_err-go_on.ensures.err)
 
 pub loop-round-preserved : goal.loop-round-preserved
 loop-round-preserved g c =
-    let old : Walk = record { entered = c.loop-round.walk.entered; frames = c.pop.new.self; left = c.loop-round.walk.left } in
+    let old : Walk = record { entered = c.loop-round.walk.entered; frames = c.pop.new.self; left = c.loop-round.walk.left; places = c.loop-round.walk.places } in
     walk_goes_on (g.G.Graph.children_of c.args.graph.now) c.args.root c.in-Some.top old c.loop-round.walk.frames.items c.loop-round._round c.in-Some.ensures.items c.loop-round.invariant c.go_on.new.walk c.in_ok-go_on.ensures.ok
 
 pub unreachable-requires : goal.unreachable-requires
@@ -35,3 +35,6 @@ unreachable-requires g c =
     let small = c.len-count.ensures.small in
     let value = c.len-count.ensures.value in
     omega (arith, count, rounds, small, value)
+
+pub go_on-requires : goal.go_on-requires
+go_on-requires g c = λ n there. (c.loop-round.invariant.known n).1 (inr there)
