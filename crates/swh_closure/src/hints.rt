@@ -50,9 +50,10 @@ impl Hints {
     /// Hints for a list, of which a short one has none.
     pub fn new(alloc: Global, names: &[Name]) -> Hints {
         let mut places = Vec::new(alloc);
-        if names.len() >= FEW {
-            let _ = places.resize(PLACES, 0);
+        if names.len() < FEW {
+            return Hints { places };
         }
+        let _ = places.resize(PLACES, 0);
         let mut hints = Hints { places };
         for (place, name) in names.iter().enumerate().rev() {
             hints.note(name, place);
