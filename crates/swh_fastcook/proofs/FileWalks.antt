@@ -16,7 +16,7 @@ use Rattle.swh_postorder.specs.Cycle.{ArePreceded}
 use Rattle.swh_postorder.proofs.Preceded.{cut_at}
 use Rattle.swh_postorder.proofs.Trips.{none_in, first_in, later_in, in_cases}
 use Rattle.swh_pathwalk.specs.Walk.{Coming, Standing, with_entries, BeginsAt, ComesInside, Steps}
-use Rattle.swh_pathwalk.specs.Weight.{coming_weight, LeadInto}
+use Rattle.swh_pathwalk.specs.Weight.{coming_weight}
 use Rattle.swh_pathwalk.proofs.Weights.{kids_are, lead_at_first, lighter}
 use Rattle.swh_fastcook.specs.Files.{IsFileIn, FilesLeadInto, Leads}
 use Rattle.swh_fastcook.specs.Stream.{content_name}

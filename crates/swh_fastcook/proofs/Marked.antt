@@ -1,5 +1,5 @@
 -- Marks that are given one after another.
-use Rattle.std.proofs.Common.{◌≡◌, ◌⊎◌, inl, inr, ℕ, ◌+◌, ◌<◌, Bool, true, false, cond, Option, Some, None, List, [], ◌∷◌, ◌++◌, length, take, drop, get_or, refl, sym, ap, ◌∙◌, subst, arith, add-one, drop-cons}
+use Rattle.std.proofs.Common.{◌≡◌, ◌⊎◌, inl, inr, zero, suc, ℕ, ◌+◌, ◌<◌, Bool, true, false, cond, Option, Some, None, List, [], ◌∷◌, ◌++◌, length, take, drop, get_or, refl, sym, ap, ◌∙◌, subst, arith, add-one, drop-cons}
 use Rattle.std.specs.Prelude.{Contains}
 use Rattle.std.specs.Map.{lookup}
 use Rattle.std.specs.BTreeMap.{is_at}
@@ -78,6 +78,39 @@ module _ (order : List Name) (i : ℕ) (none : Name) (within : i < length order)
       pub have_more : HaveMarks order (take (i + 1) order) new
       have_more q = subst (IsMarkOf order (take (i + 1) order) q) (sym (by_name q)) (mark_by q (is_at (name_cmp name) q) refl)
 
+-- ---- names that are written, by their places
+
+written_step : (b : Bool) (n : Name) (rest more all : List Name) → all ≡ rest ++ more → cond b (n ∷ all) all ≡ cond b (n ∷ rest) rest ++ more
+written_step true n rest more all is = ap (λ (l : List Name). n ∷ l) is
+written_step false n rest more all is = is
+
+written_both : (xs ys : List Name) → written (xs ++ ys) ≡ written xs ++ written ys
+written_both [] ys = refl
+written_both (n ∷ ns) ys = written_step (is_written n) n (written ns) (written ys) (written (ns ++ ys)) (written_both ns ys)
+
+pub written_more : (order : List Name) (i : ℕ) (none : Name) (names new : List Name) → i < length order → names ≡ written (take i order) → new ≡ names ++ written (get_or order i none ∷ []) → new ≡ written (take (i + 1) order)
+written_more order i none names new within was is =
+    is ∙ ap (λ (l : List Name). l ++ written (get_or order i none ∷ [])) was ∙ sym (ap written (take_more order i none within) ∙ written_both (take i order) (get_or order i none ∷ []))
+
+step_mark : (n : Name) (ns : List Name) (name : Name) (p : ℕ) (d : Name) → (w : Bool) → is_written n ≡ w → ((q : ℕ) → q < length (written ns) → name ≡ get_or (written ns) q d → HasMark ns name (q + 1))
+    → p < length (cond w (n ∷ written ns) (written ns)) → name ≡ get_or (cond w (n ∷ written ns) (written ns)) p d → HasMark (n ∷ ns) name (p + 1)
+step_mark n ns name zero d true w more less is = record { before = []; behind = ns; cut = ap (λ (m : Name). m ∷ ns) (sym is); number = refl }
+step_mark n ns name (suc q) d true w more less is =
+    let has = more q (omega (arith, less)) is in
+    let number = has.number in
+    let longer : length (written (n ∷ has.before)) ≡ length (written has.before) + 1 = ap (λ (b : Bool). length (cond b (n ∷ written has.before) (written has.before))) w ∙ omega arith in
+    record { before = n ∷ has.before; behind = has.behind; cut = ap (λ (l : List Name). n ∷ l) has.cut; number = omega (arith, number, longer) }
+step_mark n ns name p d false w more less is =
+    let has = more p less is in
+    let number = has.number in
+    let same : length (written (n ∷ has.before)) ≡ length (written has.before) = ap (λ (b : Bool). length (cond b (n ∷ written has.before) (written has.before))) w in
+    record { before = n ∷ has.before; behind = has.behind; cut = ap (λ (l : List Name). n ∷ l) has.cut; number = omega (arith, number, same) }
+
+-- the mark of a name is one more than its place among those that are written
+pub place_mark : (order : List Name) (p : ℕ) (name d : Name) → p < length (written order) → name ≡ get_or (written order) p d → HasMark order name (p + 1)
+place_mark [] p name d less is = absurd (omega (arith, less))
+place_mark (n ∷ ns) p name d less is = step_mark n ns name p d (is_written n) refl (λ q l e. place_mark ns q name d l e) less is
+
 -- ---- a mark that is asked for
 
 itself : (name : Name) → is_at (name_cmp name) name ≡ true
@@ -103,6 +136,11 @@ mark_at name (b ∷ bs) behind fresh =
 pub mark_is : (order : List Name) (name : Name) (mark : ℕ) → StandOnce order → HasMark order name mark → mark ≡ mark_of order name
 mark_is order name mark once has =
     has.number ∙ sym (ap (λ (l : List Name). mark_of l name) has.cut ∙ mark_at name has.before has.behind (λ there. once name (record { before = has.before; behind = has.behind; cut = has.cut; there = there })))
+
+-- the same by a place that was found
+pub place_of : (order names : List Name) (p : ℕ) (name d : Name) → StandOnce order → names ≡ written order → p < length names → name ≡ get_or names p d → p + 1 ≡ mark_of order name
+place_of order names p name d once are less is =
+    mark_is order name (p + 1) once (place_mark order p name d (subst (λ (l : List Name). p < length l) are less) (is ∙ ap (λ (l : List Name). get_or l p d) are))
 
 module _ (order : List Name) (entries : List (Name × ℕ)) (have : HaveMarks order order entries) (q : Name) (found : Option ℕ) (is : found ≡ lookup (is_at (cmp-value.it q)) entries) where
   pub mark_found : IsMarkOf order order q found
