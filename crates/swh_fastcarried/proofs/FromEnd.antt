@@ -5,7 +5,7 @@ use Rattle.std.proofs.Math.Seq.{drop-length}
 use Rattle.swh_base.specs.declared.name.Name.{Name}
 use Rattle.swh_graph.proofs.Lists.{none_in, in_cases}
 use Rattle.swh_carried.specs.declared.fault.Why.{Why}
-use Rattle.swh_carried.specs.Uncarried.{BreaksFirst, BreaksNone, IsFirstToBreak}
+use Rattle.swh_carried.specs.Uncarried.{BreaksNone}
 use Rattle.swh_fastcarried.specs.First.{IsFirstRule, IsFirstFound}
 
 module _ (Breaks : Name → Why → Type 0) where

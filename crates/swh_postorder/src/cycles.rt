@@ -92,8 +92,8 @@ fn first_unpreceded<G: Graph>(
 }
 
 /// The first name in the order that a walk leads back to from one of its children, if there is one. The order is that in
-/// which a walk leaves names. Its time is linear in the names and their children, but where none is on a cycle and strangers
-/// have chosen ids that begin alike, or one is: then it is n log n.
+/// which a walk leaves names. Its time is n log n in the names and their children, and mostly linear: only where a name is on
+/// a cycle, or strangers have chosen ids that begin alike, a set is asked for each child.
 pub fn first_on_cycle<G: Graph>(
     alloc: Global,
     graph: &G,

@@ -1,5 +1,5 @@
-use Rattle.std.proofs.Common.{◌≡◌, ◌+◌, ◌-◌, ◌<◌, ℕ, List, [], drop, get_or, length, sym, ap, ◌∙◌, subst, arith}
-use Rattle.std.specs.Prelude.{Contains, ◌↔◌, IsTrue}
+use Rattle.std.proofs.Common.{◌≡◌, ◌+◌, ◌-◌, ◌<◌, ℕ, List, [], drop, get_or, length, subst, arith}
+use Rattle.std.specs.Prelude.{IsTrue}
 use Rattle.std.specs.Map.{lookup}
 use Rattle.std.specs.BTreeMap.{is_at}
 use Rattle.swh_base.specs.declared.kind.Kind.TheVariants.{Content}
@@ -8,7 +8,7 @@ use Rattle.swh_base.specs.Name.{name_cmp}
 use Rattle.swh_ways.specs.Ways.{ComesFrom, TellAll}
 use Rattle.swh_ways.proofs.WaySteps.{told_at_last, told_at, here_at}
 use Rattle.swh_fastcarried.specs.First.{IsFirstFound}
-use Rattle.swh_fastcarried.specs.Rules.{BreaksIn, IsRevisionRoot}
+use Rattle.swh_fastcarried.specs.Rules.{BreaksIn}
 use Rattle.swh_fastcarried.proofs.FromEnd.{none_at_end, found_more, found_at}
 use Rattle.swh_fastcarried.proofs.RevisionRoots.{root_in, ways_same}
 use Rattle.swh_fastcarried.proofs.first.first_in.Goals as goal
