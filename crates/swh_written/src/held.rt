@@ -1,5 +1,5 @@
 //! Bytes that are held, so that they are taken in large pieces.
-ghost use Rattle.std.specs.Prelude.{◌≡◌, [], OnOk};
+ghost use Rattle.std.specs.Prelude.{◌≡◌, ◌<◌, [], length, OnOk};
 ghost use Rattle.swh_outside.specs.Faults.{HasCause};
 ghost use Rattle.swh_written.specs.Held.{Wrote, kept};
 
@@ -23,6 +23,7 @@ pub fn flush<T: Taker>(taker: &mut T, held: &mut Vec<u8>) -> Result<(), Failed>
 /// Has what is held taken where it is enough.
 pub fn settle<T: Taker>(taker: &mut T, held: &mut Vec<u8>) -> Result<(), Failed>
     ensures bytes { Wrote T.takes T.takes_front (kept taker.old held.old.items) [] (kept taker.new held.new.items) result }
+    ensures few { OnOk result (length held.new.items < 65536) }
     ensures cause { HasCause (T.failures taker.old) (T.failures taker.new) result }
 {
     if held.len() < ENOUGH {

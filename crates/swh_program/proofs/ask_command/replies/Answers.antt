@@ -18,5 +18,5 @@ loop-path-preserved g c =
     let more : map text (take (i + 1) paths) ≡ map text (take i paths) ++ text path ∷ [] =
     ap (map text) (take_more paths i path c.loop-path-test.true ∙ ap (λ p. take i paths ++ p ∷ []) (sym c.path-item.is)) ∙ map-append text (take i paths) (path ∷ []) in
     let told = told_more a (map text (take i paths)) (text path) reply c.loop-path.text c.write_reply.new.text c.loop-path.ending c.ending_with-ending.result c.loop-path.invariant
-    (subst (λ (p : List ℕ). IsReplyToGet a p reply) same c.in_ok-reply.ensures) c.in_ok-write_reply.ensures c.ending_with-ending.ensures in
+    (subst (λ (p : List ℕ). IsReplyToGet a p reply) same c.in_ok-reply.ensures.text) c.in_ok-write_reply.ensures c.ending_with-ending.ensures in
     subst (λ (l : List (List ℕ)). TellsArchive l a c.write_reply.new.text c.ending_with-ending.result) (sym more) told
