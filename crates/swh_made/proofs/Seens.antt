@@ -15,10 +15,11 @@ use Rattle.std.proofs.lemmas.List.Elements.{Contains-push, Contains-append_left,
 use Rattle.swh_base.specs.declared.kind.Kind.{Kind}
 use Rattle.swh_model.specs.Meaning.{Made}
 use Rattle.swh_made.specs.declared.places.Places.{Places}
-use Rattle.swh_made.specs.Seen.{digest_of, places_in, first_and, first_at, further_at, places_at, IsFound, IsIndexed, GetsPlace, GetsOther, SamePlaces, LeadsTo, LedTo, IsNoted}
+use Rattle.swh_made.specs.Seen.{digest_of, places_in, first_and, led_and, first_at, further_at, mapped_at, slot_at, places_at, IsFound, IsIndexed, SlotsStay, MappedStay, GetsMapped, GetsPlace, GetsOther, SameMapped, PlacesStay, LeadsTo, LedTo, IsMapped, IsNoted, IsNowhere, StandsAtNone}
 use Rattle.swh_made.specs.declared.seen.Novelty.{Novelty}
 use Rattle.swh_made.specs.declared.seen.Novelty.TheVariants.{New, Known}
 use Rattle.swh_made.proofs.Elements.{first_or_later, first_is, later_is, none_is}
+use Rattle.swh_made.proofs.Slotted.{and_cases, and_later}
 use Rattle.swh_made.specs.Making.{object_of}
 
 own_reverse : (o : Ordering) → o ≡ ordering_reverse o → o ≡ Equal
@@ -97,35 +98,35 @@ put_back digest place known old between new there put back = record { there = th
 pub put_there : (digest : ℕ) (place : ℕ) (old new : List (ℕ × ℕ)) → IsPut digest place old new → first_at new digest ≡ None → ⊥
 put_there digest place old new put none = let here : first_at new digest ≡ Some place = put digest ∙ ap (λ (b : Bool). cond b (Some place) (first_at old digest)) (at_self digest) in cc
 
-same_places : (old new : Places) (digest : ℕ) → first_at new.first.entries digest ≡ first_at old.first.entries digest → new.further.entries ≡ old.further.entries → places_at new digest ≡ places_at old digest
+same_places : (old new : Places) (digest : ℕ) → first_at new.first.entries digest ≡ first_at old.first.entries digest → new.further.entries ≡ old.further.entries → mapped_at new digest ≡ mapped_at old digest
 same_places old new digest e same = ap (λ (o : Option ℕ). first_and o (further_at new.further.entries digest)) e ∙ ap (λ (f : List (ℕ × Vec ℕ)). first_and (first_at old.first.entries digest) (further_at f digest)) same
 
 -- A digest that led nowhere.
-pub led_new : (digest : ℕ) (place : ℕ) (old new : Places) → LeadsTo digest place old.first.entries new.first.entries → new.further.entries ≡ old.further.entries → GetsPlace digest place old new
+pub led_new : (digest : ℕ) (place : ℕ) (old new : Places) → LeadsTo digest place old.first.entries new.first.entries → new.further.entries ≡ old.further.entries → GetsMapped digest place old new
 led_new digest place old new l same = record { there = subst (λ (o : Option ℕ). Contains (first_and o (further_at new.further.entries digest)) place) (sym l.there) (first_is place (further_at new.further.entries digest)); stay = λ other k c. by_first other k (first_at old.first.entries other) refl c }
   where
-    by_first : (other : ℕ) (k : ℕ) (o : Option ℕ) → first_at old.first.entries other ≡ o → Contains (places_at old other) k → Contains (places_at new other) k
+    by_first : (other : ℕ) (k : ℕ) (o : Option ℕ) → first_at old.first.entries other ≡ o → Contains (mapped_at old other) k → Contains (mapped_at new other) k
     by_first other k None e c = absurd (none_is k (subst (λ (o : Option ℕ). Contains (first_and o (further_at old.further.entries other)) k) e c))
     by_first other k (Some p) e c =
-        let here : places_at new other ≡ places_at old other = same_places old new other (l.stay other p e ∙ sym e) same in
+        let here : mapped_at new other ≡ mapped_at old other = same_places old new other (l.stay other p e ∙ sym e) same in
         subst (λ (ps : List ℕ). Contains ps k) (sym here) c
 
 -- A digest that led nowhere had no place.
-pub led_none : (digest : ℕ) (places : Places) (k : ℕ) → first_at places.first.entries digest ≡ None → Contains (places_at places digest) k → ⊥
+pub led_none : (digest : ℕ) (places : Places) (k : ℕ) → first_at places.first.entries digest ≡ None → Contains (mapped_at places digest) k → ⊥
 led_none digest places k e c = none_is k (subst (λ (o : Option ℕ). Contains (first_and o (further_at places.further.entries digest)) k) e c)
 
 -- A digest that leads where it led.
-pub led_same : (digest : ℕ) (place : ℕ) (old new : Places) → LedTo digest old.first.entries new.first.entries place → new.further.entries ≡ old.further.entries → SamePlaces old new
+pub led_same : (digest : ℕ) (place : ℕ) (old new : Places) → LedTo digest old.first.entries new.first.entries place → new.further.entries ≡ old.further.entries → SameMapped old new
 led_same digest place old new l same other = same_places old new other (l.same other) same
 
-pub first_same : (old new : Places) → new.first.entries ≡ old.first.entries → new.further.entries ≡ old.further.entries → SamePlaces old new
+pub first_same : (old new : Places) → new.first.entries ≡ old.first.entries → new.further.entries ≡ old.further.entries → SameMapped old new
 first_same old new e same other = same_places old new other (ap (λ (f : List (ℕ × ℕ)). first_at f other) e) same
 
 -- One more of a digest that led somewhere.
-pub led_other : (digest : ℕ) (first place : ℕ) (old new : Places) → LedTo digest old.first.entries new.first.entries first → GetsOther digest place old.further.entries new.further.entries → GetsPlace digest place old new
+pub led_other : (digest : ℕ) (first place : ℕ) (old new : Places) → LedTo digest old.first.entries new.first.entries first → GetsOther digest place old.further.entries new.further.entries → GetsMapped digest place old new
 led_other digest first place old new l g = record { there = subst (λ (o : Option ℕ). Contains (first_and o (further_at new.further.entries digest)) place) (sym (l.same digest ∙ l.there)) (later_is first (further_at new.further.entries digest) place g.there); stay = λ other k c. by_first other k (first_at old.first.entries other) refl c }
   where
-    by_first : (other : ℕ) (k : ℕ) (o : Option ℕ) → first_at old.first.entries other ≡ o → Contains (places_at old other) k → Contains (places_at new other) k
+    by_first : (other : ℕ) (k : ℕ) (o : Option ℕ) → first_at old.first.entries other ≡ o → Contains (mapped_at old other) k → Contains (mapped_at new other) k
     by_first other k None e c = absurd (none_is k (subst (λ (o : Option ℕ). Contains (first_and o (further_at old.further.entries other)) k) e c))
     by_first other k (Some p) e c =
         let c2 : Contains (p ∷ further_at old.further.entries other) k = subst (λ (o : Option ℕ). Contains (first_and o (further_at old.further.entries other)) k) e c in
@@ -137,18 +138,13 @@ led_other digest first place old new l g = record { there = subst (λ (o : Optio
         by_place p other k (inr c) = later_is p (further_at new.further.entries other) k (g.stay other k c)
 
 -- At none of the places of a digest that led somewhere.
-pub led_absent : (digest : ℕ) (first : ℕ) (old new : Places) (P : ℕ → Type 0) → LedTo digest old.first.entries new.first.entries first → (P first → ⊥) → ((k : ℕ) → Contains (further_at old.further.entries digest) k → P k → ⊥) → (k : ℕ) → Contains (places_at old digest) k → P k → ⊥
+pub led_absent : (digest : ℕ) (first : ℕ) (old new : Places) (P : ℕ → Type 0) → LedTo digest old.first.entries new.first.entries first → (P first → ⊥) → ((k : ℕ) → Contains (further_at old.further.entries digest) k → P k → ⊥) → (k : ℕ) → Contains (mapped_at old digest) k → P k → ⊥
 led_absent digest first old new P l here others k c p =
     by_place (first_or_later first (further_at old.further.entries digest) k (subst (λ (o : Option ℕ). Contains (first_and o (further_at old.further.entries digest)) k) l.there c))
   where
     by_place : (first ≡ k) ⊎ Contains (further_at old.further.entries digest) k → ⊥
     by_place (inl e) = here (subst P (sym e) p)
     by_place (inr d) = others k d p
-
-pub indexed_stay : (id_of : Kind → List ℕ → List ℕ) (made : List Made) (old new : Places) (digest : ℕ) (place : ℕ) → GetsPlace digest place old new → IsIndexed id_of made old → IsIndexed id_of made new
-indexed_stay id_of made old new digest place g h m c =
-    let f = h m c in
-    record { place = f.place; among = g.stay (digest_of (id_of m.kind m.body)) f.place f.among; there = f.there }
 
 get_left : (xs : List Made) (m n : Made) (k : ℕ) → slice_get xs k ≡ Some m → slice_get (xs ++ n ∷ []) k ≡ Some m
 get_left xs m n k e =
@@ -164,31 +160,104 @@ one n m (k, l, e) = ap (λ (i : ℕ). get_or (n ∷ []) i m) (zero_is k l) ∙ e
     zero_is : (k : ℕ) → k < 1 → 0 ≡ k
     zero_is k l = omega arith
 
+pub places_stay : (old new : Places) → PlacesStay old new → (digest k : ℕ) → Contains (places_at old digest) k → Contains (places_at new digest) k
+places_stay old new stay digest k c = by_place (and_cases (slot_at old.slots.items digest) (mapped_at old digest) k c)
+  where
+    by_place : (slot_at old.slots.items digest ≡ Some k) ⊎ Contains (mapped_at old digest) k → Contains (places_at new digest) k
+    by_place (inl e) = subst (λ (o : Option ℕ). Contains (led_and o (mapped_at new digest)) k) (sym (stay.slots digest k e)) (first_is k (mapped_at new digest))
+    by_place (inr d) = and_later (slot_at new.slots.items digest) (mapped_at new digest) k (stay.mapped digest k d)
+
+pub not_none : (o : Option ℕ) (p : ℕ) → o ≡ Some p → o ≡ None → ⊥
+not_none o p e f = absurd (cc)
+
+-- A slot that was taken stays so.
+pub taken_stays : (old new : List ℕ) → SlotsStay old new → (digest : ℕ) → (slot_at old digest ≡ None → ⊥) → slot_at new digest ≡ None → ⊥
+taken_stays old new stay digest taken free = by_slot (slot_at old digest) refl
+  where
+    by_slot : (o : Option ℕ) → slot_at old digest ≡ o → ⊥
+    by_slot None e = taken e
+    by_slot (Some p) e = not_none (slot_at new digest) p (stay digest p e) free
+
+found_stays : (id_of : Kind → List ℕ → List ℕ) (made more : List Made) (old new : Places) (m : Made) → PlacesStay old new → ((k : ℕ) → slice_get made k ≡ Some m → slice_get more k ≡ Some m) → IsFound id_of made old m → IsFound id_of more new m
+found_stays id_of made more old new m stay on f =
+    let digest = digest_of (id_of m.kind m.body) in
+    record {
+      place = f.place;
+      among = places_stay old new stay digest f.place f.among;
+      taken = taken_stays old.slots.items new.slots.items stay.slots digest f.taken;
+      there = on f.place f.there;
+    }
+
 pub indexed_more : (id_of : Kind → List ℕ → List ℕ) (made : List Made) (old new : Places) (n : Made) → GetsPlace (digest_of (id_of n.kind n.body)) (length made) old new → IsIndexed id_of made old → IsIndexed id_of (made ++ n ∷ []) new
 indexed_more id_of made old new n g h m c = by_place (Contains-append_cases made (n ∷ []) m c)
   where
     by_place : Contains made m ⊎ Contains (n ∷ []) m → IsFound id_of (made ++ n ∷ []) new m
-    by_place (inl c) =
-        let f = h m c in
-        record { place = f.place; among = g.stay (digest_of (id_of m.kind m.body)) f.place f.among; there = get_left made m n f.place f.there }
-    by_place (inr c) = subst (λ (k : Made). IsFound id_of (made ++ n ∷ []) new k) (one n m c) (record { place = length made; among = g.there; there = get_last made n })
+    by_place (inl c) = found_stays id_of made (made ++ n ∷ []) old new m g.stay (get_left made m n) (h m c)
+    by_place (inr c) = subst (λ (k : Made). IsFound id_of (made ++ n ∷ []) new k) (one n m c) (record { place = length made; among = g.there; taken = g.taken; there = get_last made n })
 
-pub absent : (id_of : Kind → List ℕ → List ℕ) (made : List Made) (places : Places) (m : Made) → IsIndexed id_of made places → ((k : ℕ) → Contains (places_at places (digest_of (id_of m.kind m.body))) k → slice_get made k ≡ Some m → ⊥) → Contains made m → ⊥
+pub absent : (id_of : Kind → List ℕ → List ℕ) (made : List Made) (places : Places) (m : Made) → IsIndexed id_of made places → IsNowhere made (digest_of (id_of m.kind m.body)) m places → Contains made m → ⊥
 absent id_of made places m h none c =
     let f = h m c in
-    none f.place f.among f.there
+    none f.taken f.place f.among f.there
 
-pub indexed_same : (id_of : Kind → List ℕ → List ℕ) (made : List Made) (old new : Places) → SamePlaces old new → IsIndexed id_of made old → IsIndexed id_of made new
-indexed_same id_of made old new same h m c =
-    let f = h m c in
-    record { place = f.place; among = subst (λ (ps : List ℕ). Contains ps f.place) (sym (same (digest_of (id_of m.kind m.body)))) f.among; there = f.there }
+pub indexed_same : (id_of : Kind → List ℕ → List ℕ) (made : List Made) (old new : Places) → PlacesStay old new → IsIndexed id_of made old → IsIndexed id_of made new
+indexed_same id_of made old new stay h m c = found_stays id_of made made old new m stay (λ k e. e) (h m c)
 
 pub same_object : (k j : Kind) (b d : List ℕ) → k ≡ j → b ≡ d → object_of k b ≡ object_of j d
 same_object k j b d e f = ap (λ (t : Kind). object_of t b) e ∙ ap (object_of j) f
 
-pub noted_known : (made : List Made) (digest : ℕ) (place : ℕ) (m : Made) (old new : Places) (told : Novelty) → told ≡ Known → IsNoted made digest place m old new told → SamePlaces old new × Contains made m
+pub noted_known : (made : List Made) (digest : ℕ) (place : ℕ) (m : Made) (old new : Places) (told : Novelty) → told ≡ Known → IsNoted made digest place m old new told → PlacesStay old new × Contains made m
 noted_known made digest place m old new told e noted = subst (IsNoted made digest place m old new) e noted
 
 pub noted_new : (made : List Made) (digest : ℕ) (place : ℕ) (m : Made) (old new : Places) (told : Novelty) → told ≡ New → IsNoted made digest place m old new told
-    → GetsPlace digest place old new × ((k : ℕ) → Contains (places_at old digest) k → slice_get made k ≡ Some m → ⊥)
+    → GetsPlace digest place old new × IsNowhere made digest m old
 noted_new made digest place m old new told e noted = subst (IsNoted made digest place m old new) e noted
+
+pub mapped_known : (made : List Made) (digest : ℕ) (place : ℕ) (m : Made) (old new : Places) (told : Novelty) → told ≡ Known → IsMapped made digest place m old new told → SameMapped old new × Contains made m
+mapped_known made digest place m old new told e noted = subst (IsMapped made digest place m old new) e noted
+
+one_led : (o : Option ℕ) (j k : ℕ) → o ≡ Some j → o ≡ Some k → j ≡ k
+one_led o j k e f = cc
+
+-- Nowhere, where it stands neither where the slot leads nor where the maps do.
+pub nowhere_then : (made : List Made) (digest known : ℕ) (m : Made) (places : Places) → slot_at places.slots.items digest ≡ Some known → (slice_get made known ≡ Some m → ⊥) → StandsAtNone made (mapped_at places digest) m → IsNowhere made digest m places
+nowhere_then made digest known m places led other mapped taken k c e = by_place (and_cases (slot_at places.slots.items digest) (mapped_at places digest) k c)
+  where
+    by_place : (slot_at places.slots.items digest ≡ Some k) ⊎ Contains (mapped_at places digest) k → ⊥
+    by_place (inl l) = other (subst (λ (j : ℕ). slice_get made j ≡ Some m) (one_led _ k known l led) e)
+    by_place (inr d) = mapped k d e
+
+mapped_still : (old new : Places) → SameMapped old new → MappedStay old new
+mapped_still old new same other k c = subst (λ (ps : List ℕ). Contains ps k) (sym (same other)) c
+
+-- What is noted once the slot of its digest led to a place where it does not stand.
+module _ (made : List Made) (digest place known : ℕ) (m : Made) (old new : Places) (slots : Vec ℕ) where
+  abbrev pub between : Places
+  between = record { slots = slots; first = old.first; further = old.further }
+
+  pub slots_on : SlotsStay old.slots.items slots.items → new.slots.items ≡ slots.items → SlotsStay old.slots.items new.slots.items
+  slots_on stay same = subst (SlotsStay old.slots.items) (sym same) stay
+
+  pub same_stays : SlotsStay old.slots.items slots.items → new.slots.items ≡ slots.items → SameMapped between new → PlacesStay old new
+  same_stays stay same mapped = record { slots = slots_on stay same; mapped = mapped_still between new mapped }
+
+  pub noted_then : SlotsStay old.slots.items slots.items → slot_at slots.items digest ≡ Some known → (slice_get made known ≡ Some m → ⊥) → new.slots.items ≡ slots.items → (told : Novelty) → IsMapped made digest place m between new told → IsNoted made digest place m old new told
+  noted_then stay led other same New noted = (gets, λ taken k c e. nowhere k c e)
+    where
+      led_now : slot_at new.slots.items digest ≡ Some known
+      led_now = ap (λ (s : List ℕ). slot_at s digest) same ∙ led
+
+      gets : GetsPlace digest place old new
+      gets = record {
+        there = and_later (slot_at new.slots.items digest) (mapped_at new digest) place noted.0.there;
+        taken = λ free. not_none (slot_at new.slots.items digest) known led_now free;
+        stay = record { slots = slots_on stay same; mapped = noted.0.stay };
+      }
+
+      nowhere : (k : ℕ) → Contains (places_at old digest) k → slice_get made k ≡ Some m → ⊥
+      nowhere k c e = by_place (and_cases (slot_at old.slots.items digest) (mapped_at old digest) k c)
+        where
+          by_place : (slot_at old.slots.items digest ≡ Some k) ⊎ Contains (mapped_at old digest) k → ⊥
+          by_place (inl l) = other (subst (λ (j : ℕ). slice_get made j ≡ Some m) (one_led _ k known (stay digest k l) led) e)
+          by_place (inr d) = noted.1 k d e
+  noted_then stay led other same Known noted = (same_stays stay same noted.0, noted.1)

@@ -11,6 +11,7 @@ mod making;
 mod objects;
 mod places;
 mod seen;
+mod slots;
 
 pub use fault::MakeFault;
 pub use giving::give_all;

@@ -6,10 +6,12 @@ use std::alloc::Global;
 use std::collections::BTreeMap;
 use swh_base::Memory;
 
-/// Where the first object of each digest stands, and where others of the same digest do. The nodes of a map of numbers are
-/// small, and of ids it would be known of each only that it is one of these.
+/// Where the objects of each digest stand. Most have a slot of their own. Where a digest's slot was taken, the first map has
+/// the next object of that digest, and the second map has the others. The nodes of a map of numbers are small, and of ids it
+/// would be known of each only that it is one of these.
 #[derive(Drop)]
 pub struct Places {
+    pub slots: Vec<u32>,
     pub first: BTreeMap<u64, usize>,
     pub further: BTreeMap<u64, Vec<usize>>,
 }
@@ -17,10 +19,12 @@ pub struct Places {
 impl Places {
     /// No digest has a place.
     pub fn new(alloc: Global) -> Places
+        ensures slots { result.slots.items ≡ [] }
         ensures first { result.first.entries ≡ [] }
         ensures further { result.further.entries ≡ [] }
     {
         Places {
+            slots: Vec::new(alloc),
             first: BTreeMap::new(alloc),
             further: BTreeMap::new(alloc),
         }

@@ -2,8 +2,6 @@
 ghost use Rattle.std.specs.Prelude.{
   ◌≡◌,
   ◌↔◌,
-  ◌++◌,
-  ◌∷◌,
   [],
   ℕ,
   IsTrue,
@@ -15,17 +13,25 @@ ghost use Rattle.std.specs.Prelude.{
   IfNone,
   IfSome,
   IfOk,
-  OnOk,
   OnErr,
 };
-ghost use Rattle.std.specs.Map.{lookup};
-ghost use Rattle.std.specs.BTreeMap.{is_at};
-ghost use Rattle.std.specs.Ordering.{nat_cmp};
 ghost use Rattle.swh_model.specs.Meaning.{Made};
 ghost use Rattle.swh_made.specs.Making.{made_from, object_of};
-ghost use Rattle.swh_made.specs.Seen.{digest_of, kept_made, places_at, IsNoted, SamePlaces, Adds};
+ghost use Rattle.swh_made.specs.Seen.{
+  digest_of,
+  kept_made,
+  mapped_at,
+  IsMapped,
+  IsNoted,
+  IsNowhere,
+  SameMapped,
+  PlacesStay,
+  StandsAtNone,
+  Adds,
+};
 
 use crate::places::{Places, add_other, digest_of, lead, others_of};
+use crate::slots::{lead_slot, slot_of};
 use std::alloc::Global;
 use std::marker::{Model, PhantomData};
 use swh_base::{Kind, Memory, Name, Namer, Shared};
@@ -100,6 +106,35 @@ fn place_among(made: &[Kept], places: &[usize], kind: Kind, body: &[u8]) -> Opti
     None
 }
 
+/// Looks for the object of this kind and body at the places that the maps have of its id's digest; where it stands at none
+/// of them, they get this place.
+fn note_mapped(
+    alloc: Global,
+    places: &mut Places,
+    made: &[Kept],
+    digest: u64,
+    kind: Kind,
+    body: &[u8],
+    place: usize,
+) -> Result<Novelty, Memory>
+    ensures mapped { IfOk result (IsMapped (map kept_made made.now) digest place (object_of kind body.now) places.old places.new) }
+    ensures err { OnErr result (SameMapped places.old places.new) }
+    ensures slots { places.new.slots.items ≡ places.old.slots.items }
+{
+    let Some(first) = lead(&mut places.first, digest, place)? else {
+        return Ok(Novelty::New);
+    };
+    if stands_at(made, first, kind, body) {
+        return Ok(Novelty::Known);
+    }
+    let others = others_of(&places.further, digest);
+    if place_among(made, others, kind, body).is_some() {
+        return Ok(Novelty::Known);
+    }
+    add_other(alloc, &mut places.further, digest, place)?;
+    Ok(Novelty::New)
+}
+
 /// Looks for the object of this name and body at the places of its id's digest; where it stands at none of them, the digest
 /// gets this place.
 fn note(
@@ -112,38 +147,53 @@ fn note(
 ) -> Result<Novelty, Memory>
     ensures noted { IfOk result (IsNoted (map kept_made made.now) (digest_of name.now.id) place (object_of name.now.kind body.now)
         places.old places.new) }
-    ensures err { OnErr result (SamePlaces places.old places.new) }
+    ensures err { OnErr result (PlacesStay places.old places.new) }
 {
     let digest = digest_of(&name.id);
-    let Some(first) = lead(&mut places.first, digest, place)? else {
+    let Some(known) = lead_slot(&mut places.slots, digest, place)? else {
         return Ok(Novelty::New);
     };
-    if stands_at(made, first, name.kind, body) {
+    if stands_at(made, known, name.kind, body) {
         return Ok(Novelty::Known);
     }
-    let others = others_of(&places.further, digest);
-    if place_among(made, others, name.kind, body).is_some() {
-        return Ok(Novelty::Known);
+    note_mapped(alloc, places, made, digest, name.kind, body, place)
+}
+
+/// At which place that the maps have of this digest the object of this kind and body stands.
+fn mapped_place(
+    places: &Places,
+    made: &[Kept],
+    digest: u64,
+    kind: Kind,
+    body: &[u8],
+) -> Option<usize>
+    ensures found { IfSome result (λ place. slice_get (map kept_made made.now) place ≡ Some (object_of kind body.now)) }
+    ensures none { IfNone result (StandsAtNone (map kept_made made.now) (mapped_at places.now digest) (object_of kind body.now)) }
+{
+    let Some(first) = places.first.get(&digest) else {
+        return None;
+    };
+    if stands_at(made, *first, kind, body) {
+        return Some(*first);
     }
-    add_other(alloc, &mut places.further, digest, place)?;
-    Ok(Novelty::New)
+    place_among(made, others_of(&places.further, digest), kind, body)
 }
 
 /// Where the object of this name and body stands.
 fn place_of(places: &Places, made: &[Kept], name: &Name, body: &[u8]) -> Option<usize>
     ensures found { IfSome result (λ place.
         slice_get (map kept_made made.now) place ≡ Some (object_of name.now.kind body.now)) }
-    ensures none { IfNone result ((k : ℕ) → Contains (places_at places.now (digest_of name.now.id)) k
-        → slice_get (map kept_made made.now) k ≡ Some (object_of name.now.kind body.now) → ⊥) }
+    ensures none { IfNone result
+        (IsNowhere (map kept_made made.now) (digest_of name.now.id) (object_of name.now.kind body.now) places.now) }
 {
     let digest = digest_of(&name.id);
-    let Some(first) = places.first.get(&digest) else {
+    let Some(place) = slot_of(places.slots.as_slice(), digest) else {
         return None;
     };
-    if stands_at(made, *first, name.kind, body) {
-        return Some(*first);
+    if stands_at(made, place, name.kind, body) {
+        return Some(place);
     }
-    place_among(made, others_of(&places.further, digest), name.kind, body)
+    mapped_place(places, made, digest, name.kind, body)
 }
 
 /// Puts this body in place of the one of the object of this name and body, where it stands.

@@ -1,11 +1,11 @@
-use Rattle.std.proofs.Common.{◌≡◌, ℕ, List, [], ◌∷◌, ◌++◌, length, Contains, map, slice_get, Some, sym, ap, ◌∙◌, subst, arith}
+use Rattle.std.proofs.Common.{◌≡◌, ℕ, List, [], ◌∷◌, ◌++◌, length, Contains, map, slice_get, Some, None, sym, ap, ◌∙◌, subst, arith}
 use Rattle.std.proofs.lemmas.List.{map-append, length-map}
 use Rattle.swh_base.specs.declared.entry.Entry.{Entry}
 use Rattle.swh_base.specs.declared.name.Name.{Name}
 use Rattle.swh_model.specs.Meaning.{Made}
 use Rattle.swh_made.specs.declared.seen.Kept.{Kept}
 use Rattle.swh_made.specs.Making.{made_from, object_of}
-use Rattle.swh_made.specs.Seen.{digest_of, kept_made, places_at, GetsPlace, IsIndexed}
+use Rattle.swh_made.specs.Seen.{digest_of, kept_made, slot_at, places_at, GetsPlace, IsIndexed}
 use Rattle.swh_made.proofs.Seens.{indexed_same, indexed_more, absent, same_object, noted_known, noted_new}
 use Rattle.swh_made.proofs.seen.Seen.add.Goals as goal
 
@@ -66,5 +66,5 @@ returns-in-New-clause-ok g c =
     ∙ ap (λ (m : Made). old ++ m ∷ []) kept in
     let noted = noted_new (map kept_made c.as_slice-made.result.now) (digest_of c.name-name.result.id) c.len-place.result (object_of c.name-name.result.kind c.body-2.result.now) inside.places c.note.new.places _ c.in-New.is c.in_ok-note.ensures.noted in
     let fresh = absent g.N.Namer.id_of old inside.places n c.self.invariant
-    (λ k h e. noted.1 k (subst (λ (i : List ℕ). Contains (places_at inside.places (digest_of i)) k) (sym id) h) (ap (λ (t : List Kept). slice_get (map kept_made t) k) (c.as_slice-made.ensures.value ∙ c.in_ok-reserve.ensures.items) ∙ e ∙ ap Some (sym asked))) in
+    (λ taken k h e. noted.1 (subst (λ (i : List ℕ). slot_at inside.places.slots.items (digest_of i) ≡ None → ⊥) (sym id) taken) k (subst (λ (i : List ℕ). Contains (places_at inside.places (digest_of i)) k) (sym id) h) (ap (λ (t : List Kept). slice_get (map kept_made t) k) (c.as_slice-made.ensures.value ∙ c.in_ok-reserve.ensures.items) ∙ e ∙ ap Some (sym asked))) in
     (λ h. fresh (subst (λ (t : List Made). Contains t n) (sym c.self.view_is) h), added ∙ ap (λ (t : List Made). t ++ n ∷ []) c.self.view_is)
