@@ -1,30 +1,18 @@
 // A load over a keeper.
-ghost use Rattle.std.specs.Prelude.{◌≡◌, ℕ, [], Ok, Some, None, IfOk, IfErr, IfSome};
-ghost use Rattle.swh_base.specs.Snapshot.{snapshot_name};
-ghost use Rattle.swh_plan.specs.Plan.{wish_of};
-ghost use Rattle.swh_store.specs.Adding.{IsStanding};
-ghost use Rattle.swh_place.specs.Knowing.{CarriesOut, RefusesPlan};
+ghost use Rattle.std.specs.Prelude.{◌≡◌, ℕ, Ok, Some, IfOk, IfErr};
 ghost use Rattle.swh_outside.specs.Views.{disks};
-ghost use Rattle.swh_model.specs.Archive.{body_of};
 ghost use Rattle.swh_model.specs.Step.{replay};
 ghost use Rattle.swh_walk.specs.declared.input.Opening.TheVariants.{Found};
 ghost use Rattle.swh_walk.specs.Loading.{AreAllowed, IsEndAt, IsSameOrRead, IsWhole, statuses_of};
 ghost use Rattle.swh_walk.specs.Owning.{attempt};
-ghost use Rattle.swh_alone.specs.Alone.{AddsOn, alone_words};
 ghost use Rattle.swh_alone.specs.Loading.{AddsVisit, EndsVisit, IsHeldBack, MakesVisitCalls, NoCountFell, Stops};
 
-use crate::keeping::{body_in, carry_out, certificate_in, standing_in};
-use crate::seat::Alone;
+use crate::loading_parts::load_kept_parts;
 use std::alloc::Global;
-use swh_base::{Entry, Memory, Name, Namer, Shared};
-use swh_closure::Cert;
+use swh_base::Namer;
 use swh_keeper::Keeper;
-use swh_model::Outcome;
 use swh_outside::{Disk, Gate};
-use swh_place::{Calls, Refusal};
-use swh_plan::Plan;
-use swh_store::Standing;
-use swh_walk::{Input, Job, LoadFault, Loaded, Reads, Turn, load};
+use swh_walk::{AtOnce, Input, Job, LoadFault, Loaded, Reads, Turn};
 
 /// Loads the input of an origin into a keeper, as a new visit of it.
 pub fn load_kept<N: Namer, D: Disk, I, B: Drop, R: Reads<I, Input<N, B>>, G: Gate>(
@@ -62,34 +50,12 @@ pub fn load_kept<N: Namer, D: Disk, I, B: Drop, R: Reads<I, Input<N, B>>, G: Gat
     ensures later { NoCountFell (disks D.tells D.file D.faults) keeper.old keeper.new }
     ensures input { IsSameOrRead (R.gives job.now.read) job.now.opening input.old input.new }
 {
-    let by = turn.worker.by;
-    let place = Calls {
-        by,
-        said: Alone,
-        standing: |keeper: &mut Keeper<N, D>, entry: &Entry| -> Result<Standing, Memory>
-            requires { keeper.old.wounded ≡ None }
-            ensures looks { AddsOn N.id_of (disks D.tells D.file D.faults) [] keeper.old keeper.new }
-            ensures standing { IfOk result (IsStanding (replay keeper.new.history).bodies entry.now) }
-        { Ok(standing_in(keeper, entry)) },
-        body: |keeper: &mut Keeper<N, D>, name: &Name| -> Option<Shared<u8>>
-            requires { keeper.old.wounded ≡ None }
-            ensures looks { AddsOn N.id_of (disks D.tells D.file D.faults) [] keeper.old keeper.new }
-            ensures held { IfSome result (λ body. body_of (replay keeper.new.history).bodies name.now ≡ Some body) }
-        { body_in(keeper, name) },
-        certify: |keeper: &mut Keeper<N, D>, root: [u8; 20], names: Vec<Name>| -> Result<
-            Cert,
-            Memory,
-        >
-            requires { keeper.old.wounded ≡ None }
-            ensures looks { AddsOn N.id_of (disks D.tells D.file D.faults) [] keeper.old keeper.new }
-            ensures root { IfOk result (λ cert. cert.root ≡ snapshot_name root) }
-        { Ok(certificate_in(keeper, root, names)) },
-        apply: move |keeper: &mut Keeper<N, D>, plan: Plan<N>| -> Result<Outcome, Refusal>
-            ensures ok { IfOk result (CarriesOut N.id_of (alone_words N.id_of (disks D.tells D.file D.faults) by)
-                (wish_of plan) keeper.old keeper.new) }
-            ensures err { IfErr result (RefusesPlan N.id_of (alone_words N.id_of (disks D.tells D.file D.faults) by)
-                (wish_of plan) keeper.old keeper.new) }
-        { carry_out(by, keeper, plan) },
+    let parts = Job {
+        origin: job.origin,
+        kind: job.kind,
+        date: job.date,
+        opening: job.opening,
+        read: AtOnce { read: &job.read },
     };
-    load(alloc, &place, keeper, turn, job, input)
+    load_kept_parts(alloc, keeper, turn, &parts, input)
 }

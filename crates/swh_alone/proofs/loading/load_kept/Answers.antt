@@ -1,54 +1,64 @@
-use Rattle.std.proofs.Common.{rules}
 use Rattle.swh_outside.specs.Views.{disks}
-use Rattle.swh_walk.specs.Loading.{AreAllowed}
+use Rattle.swh_model.specs.Step.{replay}
+use Rattle.swh_walk.specs.Loading as once
 use Rattle.swh_walk.specs.Owning.{attempt}
-use Rattle.swh_alone.proofs.Loads.{load_ended, load_added, load_calls, load_held, load_stops, load_counts}
+use Rattle.swh_walk.specs.Parts as parts
+use Rattle.swh_walk.proofs.Loads.{err_as, ok_as}
+use Rattle.swh_walk.proofs.Once.{allowed_once, end_once, same_once, whole_once}
+use Rattle.swh_alone.specs.Loading.{Stops}
+use Rattle.swh_alone.proofs.Allowing.{adds_visit, visit_calls, stops_as}
 use Rattle.swh_alone.proofs.loading.load_kept.Goals as goal
 
-pub returns-clause-ended : goal.returns-clause-ended
-returns-clause-ended g c =
+pub load_kept_parts-requires-clause-whole : goal.load_kept_parts-requires-clause-whole
+load_kept_parts-requires-clause-whole g c =
+    whole_once (g.R.Reads.gives c.args.job.now.read) c.args.input.now g.N.Namer.id_of c.requires.whole
+
+pub returns-clause-end : goal.returns-clause-end
+returns-clause-end g c =
     let job = c.args.job.now in
-    let A = AreAllowed (g.R.Reads.gives job.read) job.opening c.args.input.now in
-    load_ended g.N.Namer.id_of (disks g.D.Disk.tells g.D.Disk.file g.D.Disk.faults) A (attempt c.args.turn.now.worker.now.by job.origin.now job.kind job.date) c.args.keeper.now c.load.new.seat c.load.result c.load.ensures.ended
+    let reads = g.R.Reads.gives job.read in
+    let i = c.args.input.now in
+    let now = c.load_kept_parts.new.input in
+    let bodies = (replay c.load_kept_parts.new.keeper.history).bodies in
+    ok_as c.load_kept_parts.result (λ loaded. parts.IsGivenEndAt (parts.GivesAtOnce reads) job.opening bodies i now loaded.end) (λ loaded. once.IsEndAt reads job.opening bodies i now loaded.end)
+    (λ loaded h. end_once reads i job.opening bodies now loaded.end h) c.load_kept_parts.ensures.end
 
 pub returns-clause-adds : goal.returns-clause-adds
 returns-clause-adds g c =
     let job = c.args.job.now in
-    let A = AreAllowed (g.R.Reads.gives job.read) job.opening c.args.input.now in
-    load_added g.N.Namer.id_of (disks g.D.Disk.tells g.D.Disk.file g.D.Disk.faults) A (attempt c.args.turn.now.worker.now.by job.origin.now job.kind job.date) c.args.keeper.now c.load.new.seat c.load.result c.load.ensures.ended c.load.ensures.stops
+    let t = attempt c.args.turn.now.worker.now.by job.origin.now job.kind job.date in
+    let reads = g.R.Reads.gives job.read in
+    let i = c.args.input.now in
+    let A = parts.AreAllowed (parts.GivesAtOnce reads) job.opening i in
+    let B = once.AreAllowed reads job.opening i in
+    adds_visit A B t (allowed_once reads i job.opening) c.args.keeper.now.history c.load_kept_parts.new.keeper.history c.load_kept_parts.ensures.adds
 
 pub returns-clause-calls : goal.returns-clause-calls
 returns-clause-calls g c told =
     let job = c.args.job.now in
-    let A = AreAllowed (g.R.Reads.gives job.read) job.opening c.args.input.now in
-    load_calls g.N.Namer.id_of (disks g.D.Disk.tells g.D.Disk.file g.D.Disk.faults) A (attempt c.args.turn.now.worker.now.by job.origin.now job.kind job.date) c.args.keeper.now c.load.new.seat c.load.result c.load.ensures.ended c.load.ensures.stops told
-
-pub returns-clause-wounded : goal.returns-clause-wounded
-returns-clause-wounded g c n some =
-    let job = c.args.job.now in
-    let A = AreAllowed (g.R.Reads.gives job.read) job.opening c.args.input.now in
-    load_held g.N.Namer.id_of (disks g.D.Disk.tells g.D.Disk.file g.D.Disk.faults) A (attempt c.args.turn.now.worker.now.by job.origin.now job.kind job.date) c.args.keeper.now c.load.new.seat c.load.result c.load.ensures.ended c.load.ensures.stops n some
+    let t = attempt c.args.turn.now.worker.now.by job.origin.now job.kind job.date in
+    let reads = g.R.Reads.gives job.read in
+    let i = c.args.input.now in
+    let A = parts.AreAllowed (parts.GivesAtOnce reads) job.opening i in
+    let B = once.AreAllowed reads job.opening i in
+    visit_calls A B t (allowed_once reads i job.opening) g.N.Namer.id_of (disks g.D.Disk.tells g.D.Disk.file g.D.Disk.faults) c.args.keeper.now c.load_kept_parts.new.keeper (c.load_kept_parts.ensures.calls told)
 
 pub returns-clause-stops : goal.returns-clause-stops
 returns-clause-stops g c =
     let job = c.args.job.now in
-    let A = AreAllowed (g.R.Reads.gives job.read) job.opening c.args.input.now in
-    load_stops g.N.Namer.id_of (disks g.D.Disk.tells g.D.Disk.file g.D.Disk.faults) A (attempt c.args.turn.now.worker.now.by job.origin.now job.kind job.date) c.args.keeper.now c.load.new.seat c.load.result c.load.ensures.stops
+    let t = attempt c.args.turn.now.worker.now.by job.origin.now job.kind job.date in
+    let reads = g.R.Reads.gives job.read in
+    let i = c.args.input.now in
+    let A = parts.AreAllowed (parts.GivesAtOnce reads) job.opening i in
+    let B = once.AreAllowed reads job.opening i in
+    let id = g.N.Namer.id_of in
+    let d = disks g.D.Disk.tells g.D.Disk.file g.D.Disk.faults in
+    let a = c.args.keeper.now in
+    let b = c.load_kept_parts.new.keeper in
+    err_as c.load_kept_parts.result (Stops id d A t a b) (Stops id d B t a b)
+    (λ fault h. stops_as A B t (allowed_once reads i job.opening) id d a b fault h) c.load_kept_parts.ensures.stops
 
-pub returns-clause-later : goal.returns-clause-later
-returns-clause-later g c =
+pub returns-clause-input : goal.returns-clause-input
+returns-clause-input g c =
     let job = c.args.job.now in
-    let A = AreAllowed (g.R.Reads.gives job.read) job.opening c.args.input.now in
-    load_counts g.N.Namer.id_of (disks g.D.Disk.tells g.D.Disk.file g.D.Disk.faults) A (attempt c.args.turn.now.worker.now.by job.origin.now job.kind job.date) c.args.keeper.now c.load.new.seat c.load.result c.load.ensures.ended c.load.ensures.stops
-
-pub load-requires-clause-fits : goal.load-requires-clause-fits
-load-requires-clause-fits g c κs within = (
-  λ s e ready. search rules,
-  λ s e r t ready post. record { looks = post.0; standing = post.1 },
-  λ s name ready. search rules,
-  λ s name r t ready post. record { looks = post.0; held = post.1 },
-  λ s snapshot names may. let ready = may.ready in search rules,
-  λ s snapshot names r t may post. record { looks = post.2.0; root = post.2.1 },
-  λ s plan. search rules,
-  λ s plan r t post. record { ok = post.0; err = post.1 },
-)
+    same_once (g.R.Reads.gives job.read) c.args.input.now job.opening c.load_kept_parts.new.input c.load_kept_parts.ensures.input
