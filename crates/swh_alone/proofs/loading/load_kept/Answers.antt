@@ -10,7 +10,7 @@ use Rattle.swh_alone.proofs.Allowing.{adds_visit, visit_calls, stops_as}
 use Rattle.swh_alone.proofs.loading.load_kept.Goals as goal
 
 pub load_kept_parts-requires-clause-whole : goal.load_kept_parts-requires-clause-whole
-load_kept_parts-requires-clause-whole g c =
+load_kept_parts-requires-clause-whole g c κs within =
     whole_once (g.R.Reads.gives c.args.job.now.read) c.args.input.now g.N.Namer.id_of c.requires.whole
 
 pub returns-clause-end : goal.returns-clause-end
