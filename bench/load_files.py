@@ -4,8 +4,9 @@
     python3 bench/load_files.py [PROGRAM]
 
 All files stand in one folder. Loading is n log n: the larger stream may take at most twelve times as long as the smaller
-one, and at most a sixtieth of the time of `git fast-import`, which loads the same streams in the same run. The program is
-the built one, outside the gate.
+one, and at most a sixtieth of the time of `git fast-import`, which loads the same streams in the same run. Ten loads of the
+smaller stream are timed in a row, so that both times are about as long, and what else the machine does in them weighs alike;
+rounds of both go in turn, and the shortest of each counts. The program is the built one, outside the gate.
 """
 import os
 import shutil
@@ -18,6 +19,7 @@ from program import find_program
 from verdict import Verdict
 
 SIZES = (10_000, 100_000)
+IN_A_ROW = {10_000: 10, 100_000: 1}
 FILE_BYTES = 100
 MOST_TIMES = 12
 LEAST_OF_IMPORT = 60
@@ -66,15 +68,22 @@ def time_import(folder, stream):
     return took
 
 
+def mean_of_loads(program, folder, stream, count):
+    """The mean time of loads in a row."""
+    times = IN_A_ROW[count]
+    return sum(time_load(program, folder, stream) for _ in range(times)) / times
+
+
 def main():
     program = find_program()
-    best = {}
     with tempfile.TemporaryDirectory() as folder:
-        for count in SIZES:
-            stream = os.path.join(folder, "stream%d" % count)
+        streams = {count: os.path.join(folder, "stream%d" % count) for count in SIZES}
+        for count, stream in streams.items():
             with open(stream, "wb") as file:
                 file.write(stream_of(count))
-            best[count] = min(time_load(program, folder, stream) for _ in range(ROUNDS))
+        rounds = [[mean_of_loads(program, folder, streams[count], count) for count in SIZES] for _ in range(ROUNDS)]
+        best = dict(zip(SIZES, map(min, zip(*rounds))))
+        for count, stream in streams.items():
             git = time_import(folder, stream)
             print("%7d files: swharc %7.3f s (%8.0f files/s), git fast-import %7.3f s (%8.0f files/s)"
                   % (count, best[count], count / best[count], git, count / git))
