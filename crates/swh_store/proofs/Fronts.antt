@@ -1,82 +1,23 @@
 -- How many entries are new, and what of them is shown.
-use Rattle.std.proofs.Common.{◌≡◌, ◌≢◌, ℕ, ◌+◌, ◌<◌, ◌≤◌, Bool, true, false, cond, Option, Some, None, List, [], ◌∷◌, ◌++◌, length, take, drop, map, refl, sym, ap, ◌∙◌, subst, arith}
-use Rattle.std.specs.Prelude.{is_some, ◌||◌}
-use Rattle.std.specs.List.{AllByRecursion, IsDistinct}
-use Rattle.std.specs.Ordering.{eq_by_cmp}
-use Rattle.std.specs.Cmp.{IsEquivalence}
-use Rattle.std.specs.Cmp.Lexicographic.{nat_list_cmp_total}
+use Rattle.std.proofs.Common.{◌≡◌, ℕ, zero, suc, ◌+◌, ◌<◌, ◌≤◌, None, List, [], ◌∷◌, ◌++◌, length, take, drop, sym, ap, ◌∙◌, subst, arith}
+use Rattle.std.specs.List.{AllByRecursion}
 use Rattle.std.specs.FinMap as finite
-use Rattle.std.specs.BTreeMap.{get, keys, IsOrdered, btree_map_len}
-use Rattle.std.specs.Set.{is_member, distinct_count}
-use Rattle.std.proofs.lemmas.Cmp.{eq_by_cmp_equiv}
-use Rattle.std.proofs.lemmas.List.{take-take, take-append-drop, drop-take, take_all, length-map, length-drop}
-use Rattle.std.proofs.lemmas.Map.Keys.{IsDistinct-from_sorted, IsDistinct-head, IsDistinct-tail}
-use Rattle.std.proofs.lemmas.Map.Entries.{length-keys_of}
-use Rattle.std.proofs.lemmas.Map.Made.{is_some-lookup, length-from_keys, IsDistinct-from_count}
+use Rattle.std.proofs.lemmas.List.{take-take, take-append-drop, drop-take, take_all, get_or-take, length-drop, length-take-le}
 use Rattle.swh_base.specs.declared.name.Name.{Name}
 use Rattle.swh_base.specs.declared.entry.Entry.{Entry}
-use Rattle.swh_base.specs.Name.{name_key}
 use Rattle.swh_model.specs.Archive.{Bodies, body_of}
-use Rattle.swh_model.specs.Step.{AreNew, added}
-use Rattle.swh_model.proofs.Maps.{body_cases}
-use Rattle.swh_model.proofs.Entries.{added-append, none-empty}
+use Rattle.swh_model.specs.Step.{HasItsChildren, AreNew, added}
+use Rattle.swh_model.proofs.Entries.{added-append}
 use Rattle.swh_store.specs.declared.entries.Held.{Held}
-use Rattle.swh_store.specs.Entries.{keys_cmp, bodies_in, stored_in, IsIndex}
+use Rattle.swh_store.specs.Entries.{bodies_in, stored_in, IsNamed}
 use Rattle.swh_store.specs.Stored.{children_in}
-use Rattle.swh_store.specs.Front.{first_place, AreFresh, IsFirstIndex, IsPreloaded}
-use Rattle.swh_store.proofs.IndexLemmas.{at, key_itself, new_front, missing, childless}
-use Rattle.swh_store.proofs.FirstPlaces.{index-front}
+use Rattle.swh_store.specs.Front.{AreFresh, IsPreloaded}
+use Rattle.swh_store.proofs.IndexLemmas.{new_front, childless, unnamed, no_twin, named_held}
 
--- ---- as many names as entries
-
-abbrev key_in : Entry → List ℕ
-key_in e = name_key e.name
-
-laws : IsEquivalence (eq_by_cmp keys_cmp)
-laws = eq_by_cmp_equiv nat_list_cmp_total
-
-some_either : (b : Bool) (place : ℕ) (o : Option ℕ) → is_some (cond b (Some place) o) ≡ (b || is_some o)
-some_either true place o = refl
-some_either false place o = refl
-
--- a key is found where an entry has it
-is_found : (from : ℕ) (es : List Entry) (key : List ℕ) → is_some (first_place from es key) ≡ is_member (eq_by_cmp keys_cmp) (map key_in es) key
-is_found from [] key = refl
-is_found from (e ∷ es) key =
-    some_either (at (key_in e) key) from (first_place (from + 1) es key) ∙ ap (λ (b : Bool). b || is_some (first_place (from + 1) es key)) (laws.symm (key_in e) key)
-    ∙ ap (λ (b : Bool). at key (key_in e) || b) (is_found (from + 1) es key)
-
-distinct-new : (bodies : Bodies) (es : List Entry) → IsDistinct (eq_by_cmp keys_cmp) (map key_in es) → AllByRecursion (λ (e : Entry). body_of bodies e.name ≡ None) es → AreNew bodies es
-distinct-new bodies [] distinct none = tt
-distinct-new bodies (e ∷ es) distinct none = (
-  none.0,
-  distinct-new (finite.insert bodies e.name e.body) es (IsDistinct-tail (eq_by_cmp keys_cmp) (key_in e) (map key_in es) distinct)
-      (others es (IsDistinct-head (eq_by_cmp keys_cmp) (key_in e) (map key_in es) distinct) none.1),
-)
-  where
-    apart : (f : Entry) → at (key_in e) (key_in f) ≡ false → f.name ≢ e.name
-    apart f differ same = let t : at (key_in e) (key_in f) ≡ true = ap (λ (n : Name). at (key_in e) (name_key n)) same ∙ key_itself e.name in let g : true ≡ false = sym t ∙ differ in cc
-
-    others : (fs : List Entry) → AllByRecursion (λ (key : List ℕ). at (key_in e) key ≡ false) (map key_in fs) → AllByRecursion (λ (f : Entry). body_of bodies f.name ≡ None) fs
-        → AllByRecursion (λ (f : Entry). body_of (finite.insert bodies e.name e.body) f.name ≡ None) fs
-    others [] differ h = tt
-    others (f ∷ fs) differ h = (
-      body_cases bodies e.name e.body f.name (λ o. o ≡ None) (λ same. absurd (apart f differ.0 same)) h.0,
-      others fs differ.1 h.1,
-    )
-
-all_none : (es : List Entry) → AllByRecursion (λ (e : Entry). body_of finite.empty e.name ≡ None) es
-all_none [] = tt
-all_none (e ∷ es) = (none-empty e.name, all_none es)
-
--- entries of as many names are new
-pub all_new : (held : Held) → IsFirstIndex held → IsOrdered keys_cmp held.places → btree_map_len held.places ≡ length held.entries.items → AreNew finite.empty held.entries.items
-all_new held index ordered many =
-    let es = held.entries.items in
-    let count = length-from_keys laws (keys held.places) (map key_in es) (IsDistinct-from_sorted keys_cmp (keys held.places) ordered)
-    (λ key. sym (is_some-lookup (at key) held.places.entries) ∙ ap is_some (index.leads key) ∙ is_found 0 es key) in
-    let all : distinct_count (eq_by_cmp keys_cmp) (map key_in es) ≡ length (map key_in es) = sym count ∙ length-keys_of held.places.entries ∙ many ∙ sym (length-map es key_in) in
-    distinct-new finite.empty es (IsDistinct-from_count laws (map key_in es) all) (all_none es)
+all-front : {X : Type 0} (P : X → Type 0) (count : ℕ) (xs : List X) → AllByRecursion P xs → AllByRecursion P (take count xs)
+all-front P zero xs h = tt
+all-front P (suc count) [] h = tt
+all-front P (suc count) (x ∷ xs) h = (h.0, all-front P count xs h.1)
 
 -- ---- how many are new
 
@@ -102,6 +43,13 @@ fresh_before es place inside new not_new =
       most = λ more past within newer. not_new (new-shorter es (place + 1) more (omega (arith, past)) newer);
     }
 
+-- of entries that are new all are fresh
+pub fresh_all : (es : List Entry) (fresh : ℕ) → AreNew finite.empty es → AreFresh es fresh → take fresh es ≡ es
+fresh_all es fresh new is = take_all fresh es (not_less (λ less. is.most (length es) less (omega arith) (subst (AreNew finite.empty) (sym (take_all (length es) es (omega arith))) new)))
+  where
+    not_less : (fresh < length es → ⊥) → length es ≤ fresh
+    not_less never = omega (arith, never)
+
 -- ---- what is shown
 
 pub front-split : (es : List Entry) (shown count : ℕ) → take (shown + count) es ≡ take shown es ++ take count (drop shown es)
@@ -125,18 +73,49 @@ module _ (held : Held) (fresh shown : ℕ) (is : IsPreloaded held fresh shown) w
   pub shown-new : AreNew finite.empty (take shown es)
   shown-new = new-shorter es shown fresh is.within is.are_fresh.new
 
-  pub shown-index : IsIndex (first_place 0 (take shown es)) (take shown es)
-  shown-index = index-front shown es is.index.good shown-new
+  abbrev pub front : List Entry
+  front = take fresh es
 
-  -- a name that leads to nothing that is shown
-  pub front-missing : (n : Name) (key : List ℕ) → key ≡ name_key n → first_place 0 (take shown es) key ≡ None → (body_of (bodies_in (take shown es)) n ≡ None) × (children_in (stored_in (take shown es)) n ≡ None)
-  front-missing n key key_is none =
-      let absent = missing (first_place 0 (take shown es)) (take shown es) n key key_is shown-index none in
+  pub shown-good : AllByRecursion HasItsChildren (take shown es)
+  shown-good = subst (AllByRecursion HasItsChildren) (take-take shown fresh es is.within) (all-front HasItsChildren shown front is.placed.good)
+
+  shown-in_front : (n : Name) (place : ℕ) → IsNamed (take shown es) n place → IsNamed front n place
+  shown-in_front n place named =
+      let within = is.within in
+      let inside = is.are_fresh.inside in
+      let long : length (take shown es) ≡ shown = length-take-le shown es (omega (arith, within, inside)) in
+      let longer : length front ≡ fresh = length-take-le fresh es inside in
+      let less = named.0 in (
+        omega (arith, less, long, longer, within),
+        λ d. ap (λ (x : Entry). x.name) (get_or-take fresh es place d (omega (arith, less, long, within)) ∙ sym (get_or-take shown es place d (omega (arith, less, long)))) ∙ named.1 d,
+      )
+
+  pub front-shown : (n : Name) (place : ℕ) → place < shown → IsNamed front n place → IsNamed (take shown es) n place
+  front-shown n place less named =
+      let within = is.within in
+      let inside = is.are_fresh.inside in
+      let long : length (take shown es) ≡ shown = length-take-le shown es (omega (arith, within, inside)) in (
+        omega (arith, less, long),
+        λ d. ap (λ (x : Entry). x.name) (get_or-take shown es place d less ∙ sym (get_or-take fresh es place d (omega (arith, less, within)))) ∙ named.1 d,
+      )
+
+  -- a name of which no entry is shown
+  missing : (n : Name) → ((place : ℕ) → IsNamed (take shown es) n place → ⊥) → (body_of (bodies_in (take shown es)) n ≡ None) × (children_in (stored_in (take shown es)) n ≡ None)
+  missing n none =
+      let absent = unnamed (take shown es) n shown-good shown-new none in
       (absent, childless (take shown es) n absent)
 
-  -- the key leads to what it leads to among all entries
-  pub key_leads : (key : List ℕ) (o : Option ℕ) → o ≡ get keys_cmp held.places key → first_place 0 es key ≡ o
-  key_leads key o is_o = sym (is.index.leads key) ∙ sym is_o
+  -- nothing is shown of a name that has no entry in front
+  pub missing-in_front : (n : Name) → body_of (bodies_in front) n ≡ None → (body_of (bodies_in (take shown es)) n ≡ None) × (children_in (stored_in (take shown es)) n ≡ None)
+  missing-in_front n none = missing n (λ place named. named_held front n place is.placed.new (shown-in_front n place named) none)
+
+  -- nor of one whose entry is not shown yet
+  pub missing-behind : (n : Name) (place : ℕ) → shown ≤ place → IsNamed front n place → (body_of (bodies_in (take shown es)) n ≡ None) × (children_in (stored_in (take shown es)) n ≡ None)
+  missing-behind n place past named =
+      let within = is.within in
+      let inside = is.are_fresh.inside in
+      let long : length (take shown es) ≡ shown = length-take-le shown es (omega (arith, within, inside)) in
+      missing n (λ other shown_other. let less = shown_other.0 in no_twin front n other place is.placed.new (omega (arith, less, long, past)) (shown-in_front n other shown_other) named)
 
   pub shows : (count : ℕ) → shown + count ≤ fresh → AreNew (bodies_in (take shown es)) (take count (drop shown es))
   shows count within =
@@ -160,3 +139,10 @@ module _ (held : Held) (fresh shown : ℕ) (is : IsPreloaded held fresh shown) w
       let len = length-drop shown es in
       let zero = ap length none in
       take_all shown es (omega (arith, len, zero))
+
+  pub all_in_front : drop shown es ≡ [] → front ≡ es
+  all_in_front none =
+      let len = length-drop shown es in
+      let count = ap length none in
+      let within = is.within in
+      take_all fresh es (omega (arith, len, count, within))

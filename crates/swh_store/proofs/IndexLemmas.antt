@@ -1,5 +1,6 @@
--- Entries in the order of their adding as finite maps, and the places by which they are found.
-use Rattle.std.proofs.Common.{◌≡◌, ◌≢◌, ℕ, ◌+◌, ◌<◌, ◌≤◌, Bool, true, false, cond, Option, Some, None, List, [], ◌∷◌, ◌++◌, length, get_or, unwrap_or, refl, sym, ap, ◌∙◌, subst, arith}
+-- Entries in the order of their adding as finite maps, and what is found of a name among them.
+use Rattle.std.proofs.Common.{◌≡◌, ◌≢◌, ◌⊎◌, inl, inr, ℕ, zero, suc, ◌+◌, ◌<◌, Bool, true, false, cond, Option, Some, None, List, [], ◌∷◌, ◌++◌, append-nil, append_assoc, length, take, get_or, refl, sym, ap, ◌∙◌, subst, arith}
+use Rattle.std.specs.List.{AllByRecursion}
 use Rattle.std.specs.Ordering.{eq_by_cmp, is_eq}
 use Rattle.std.specs.Cmp.{tied_itself, Equal-is}
 use Rattle.std.specs.Cmp.Lexicographic.{nat_list_cmp_total}
@@ -7,7 +8,7 @@ use Rattle.std.specs.BTreeMap.{is_at}
 use Rattle.std.specs.FinMap as finite
 use Rattle.std.specs.Prelude.{is_some}
 use Rattle.std.proofs.Math.Seq.{get_or-append_seam}
-use Rattle.std.proofs.lemmas.List.{get_or_append_left, get_or_default, length-append}
+use Rattle.std.proofs.lemmas.List.{get_or_append_left, get_or_default, get_or-take, length-append, length-take-le}
 use Rattle.swh_base.specs.declared.name.Name.{Name}
 use Rattle.swh_base.specs.declared.entry.Entry.{Entry}
 use Rattle.swh_base.specs.Name.{name_key, name_cmp, name_cmp_total, name_cmp-IsAntisymmetric}
@@ -15,9 +16,9 @@ use Rattle.swh_base.specs.Manifest.{AreChildren}
 use Rattle.swh_model.specs.Archive.{Bodies, body_of, IsGraphOf}
 use Rattle.swh_model.specs.Step.{HasItsChildren, AreNew, added}
 use Rattle.swh_model.proofs.Maps.{body-put, body_cases}
-use Rattle.swh_model.proofs.Entries.{NoneNamed, none_named, none-empty, added-append, new-push}
+use Rattle.swh_model.proofs.Entries.{NoneNamed, none_named, none-empty, added-append, new-at}
 use Rattle.swh_store.specs.Stored.{Children, IsEntryOf, children_in}
-use Rattle.swh_store.specs.Entries.{keys_cmp, bodies_in, with_children, stored_in, StandsAt, IsFound, IsIndex, IsLed}
+use Rattle.swh_store.specs.Entries.{keys_cmp, bodies_in, with_children, stored_in, StandsAt, IsNamed, IsFound}
 
 -- whether a key is the queried one
 abbrev pub at : List ℕ → List ℕ → Bool
@@ -58,7 +59,7 @@ children-push : (es : List Entry) (e : Entry) (n : Name) → children_in (stored
 children-push es e n = ap (λ (c : Children). finite.get c n) (children-append finite.empty es (e ∷ []))
 
 -- where the name is another, what is held of it stays
-body-other : (es : List Entry) (e : Entry) (n : Name) → n ≢ e.name → body_of (bodies_in (es ++ e ∷ [])) n ≡ body_of (bodies_in es) n
+pub body-other : (es : List Entry) (e : Entry) (n : Name) → n ≢ e.name → body_of (bodies_in (es ++ e ∷ [])) n ≡ body_of (bodies_in es) n
 body-other es e n apart =
     ap (λ (b : Bodies). body_of b n) (bodies-push es e) ∙ body_cases (bodies_in es) e.name e.body n (λ o. o ≡ body_of (bodies_in es) n) (λ same. absurd (apart same)) refl
 
@@ -76,9 +77,9 @@ entry-last es e good =
       good = good;
     }
 
--- ---- the index
+-- ---- what is found of a name
 
-finds-more : (es : List Entry) (e : Entry) (n : Name) (o : Option ℕ) → n ≢ e.name → IsFound es n o → IsFound (es ++ e ∷ []) n o
+pub finds-more : (es : List Entry) (e : Entry) (n : Name) (o : Option ℕ) → n ≢ e.name → IsFound es n o → IsFound (es ++ e ∷ []) n o
 finds-more es e n None apart none = body-other es e n apart ∙ none
 finds-more es e n (Some place) apart s =
     record {
@@ -93,7 +94,7 @@ finds-more es e n (Some place) apart s =
       };
     }
 
-finds-last : (es : List Entry) (e : Entry) (n : Name) → n ≡ e.name → HasItsChildren e → StandsAt (es ++ e ∷ []) n (length es)
+pub finds-last : (es : List Entry) (e : Entry) (n : Name) → n ≡ e.name → HasItsChildren e → StandsAt (es ++ e ∷ []) n (length es)
 finds-last es e n same good =
     record {
       entry = e;
@@ -102,29 +103,8 @@ finds-last es e n same good =
       is = subst (λ (m : Name). IsEntryOf (stored_in (es ++ e ∷ [])) m e) (sym same) (entry-last es e good);
     }
 
-apart-by_key : (n m : Name) → at (name_key m) (name_key n) ≡ false → n ≢ m
+pub apart-by_key : (n m : Name) → at (name_key m) (name_key n) ≡ false → n ≢ m
 apart-by_key n m f same = let t : at (name_key m) (name_key n) ≡ true = ap (λ (k : Name). at (name_key m) (name_key k)) same ∙ key_itself m in let g : true ≡ false = sym t ∙ f in cc
-
-pub index-push : (place_at now_at : List ℕ → Option ℕ) (es : List Entry) (e : Entry) (key : List ℕ) → key ≡ name_key e.name → IsIndex place_at es → HasItsChildren e → body_of (bodies_in es) e.name ≡ None
-    → ((q : List ℕ) → now_at q ≡ cond (at key q) (Some (length es)) (place_at q)) → IsIndex now_at (es ++ e ∷ [])
-index-push place_at now_at es e key key_is index good none updates =
-    record {
-      new = new-push finite.empty es e index.new none;
-      finds = λ n.
-          subst (IsFound (es ++ e ∷ []) n) (sym (updates (name_key n) ∙ ap (λ (k : List ℕ). cond (at k (name_key n)) (Some (length es)) (place_at (name_key n))) key_is))
-          (elim (at (name_key e.name) (name_key n)) as (λ b. at (name_key e.name) (name_key n) ≡ b → IsFound (es ++ e ∷ []) n (cond b (Some (length es)) (place_at (name_key n)))) [
-            | true ↦ λ t. finds-last es e n (sym (same_key e.name n t)) good
-            | false ↦ λ f. finds-more es e n (place_at (name_key n)) (apart-by_key n e.name f) (index.finds n)
-          ] refl);
-    }
-
--- what is found in the same places
-pub index-same : (place_at now_at : List ℕ → Option ℕ) (es : List Entry) → ((q : List ℕ) → now_at q ≡ place_at q) → IsIndex place_at es → IsIndex now_at es
-index-same place_at now_at es same index =
-    record {
-      new = index.new;
-      finds = λ n. subst (IsFound es n) (sym (same (name_key n))) (index.finds n);
-    }
 
 pub new_front : (bodies : Bodies) (es fs : List Entry) → AreNew bodies (es ++ fs) → AreNew bodies es
 new_front bodies [] fs h = tt
@@ -134,7 +114,7 @@ pub new-last : (bodies : Bodies) (es : List Entry) (e : Entry) → AreNew bodies
 new-last bodies [] e h = h.0
 new-last bodies (x ∷ es) e h = new-last (finite.insert bodies x.name x.body) es e h.1
 
-finds-fewer : (es : List Entry) (e : Entry) (n : Name) (o : Option ℕ) → n ≢ e.name → IsFound (es ++ e ∷ []) n o → IsFound es n o
+pub finds-fewer : (es : List Entry) (e : Entry) (n : Name) (o : Option ℕ) → n ≢ e.name → IsFound (es ++ e ∷ []) n o → IsFound es n o
 finds-fewer es e n None apart none = sym (body-other es e n apart) ∙ none
 finds-fewer es e n (Some place) apart s =
     record {
@@ -157,68 +137,87 @@ finds-fewer es e n (Some place) apart s =
     less : place < length es
     less = let len = length-append es (e ∷ []) in let inside = s.inside in omega (arith, len, inside, not_last)
 
-pub index-pop : (place_at now_at : List ℕ → Option ℕ) (es : List Entry) (e : Entry) (key : List ℕ) → key ≡ name_key e.name → IsIndex place_at (es ++ e ∷ [])
-    → ((q : List ℕ) → now_at q ≡ cond (at key q) None (place_at q)) → IsIndex now_at es
-index-pop place_at now_at es e key key_is index updates =
-    record {
-      new = new_front finite.empty es (e ∷ []) index.new;
-      finds = λ n.
-          subst (IsFound es n) (sym (updates (name_key n) ∙ ap (λ (k : List ℕ). cond (at k (name_key n)) None (place_at (name_key n))) key_is))
-          (elim (at (name_key e.name) (name_key n)) as (λ b. at (name_key e.name) (name_key n) ≡ b → IsFound es n (cond b None (place_at (name_key n)))) [
-            | true ↦ λ t. subst (λ (m : Name). body_of (bodies_in es) m ≡ None) (same_key e.name n t) (new-last finite.empty es e index.new)
-            | false ↦ λ f. finds-fewer es e n (place_at (name_key n)) (apart-by_key n e.name f) (index.finds n)
-          ] refl);
-    }
+found-more : (before es : List Entry) → ((n : Name) → (o : Option ℕ) × IsFound before n o) → AllByRecursion HasItsChildren es → AreNew (bodies_in before) es → (n : Name) → (o : Option ℕ) × IsFound (before ++ es) n o
+found-more before [] finds good new n = subst (λ (l : List Entry). (o : Option ℕ) × IsFound l n o) (sym (append-nil before)) (finds n)
+found-more before (e ∷ es) finds good new n =
+    subst (λ (l : List Entry). (o : Option ℕ) × IsFound l n o) (append_assoc before (e ∷ []) es)
+    (found-more (before ++ e ∷ []) es next good.1 (subst (λ b. AreNew b es) (sym (bodies-push before e)) new.1) n)
+  where
+    next : (m : Name) → (o : Option ℕ) × IsFound (before ++ e ∷ []) m o
+    next m =
+        elim (at (name_key e.name) (name_key m)) as (λ b. at (name_key e.name) (name_key m) ≡ b → (o : Option ℕ) × IsFound (before ++ e ∷ []) m o) [
+          | true ↦ λ t. (Some (length before), finds-last before e m (sym (same_key e.name m t)) good.0)
+          | false ↦ λ f. ((finds m).0, finds-more before e m (finds m).0 (apart-by_key m e.name f) (finds m).1)
+        ] refl
 
-pub index-empty : (place_at : List ℕ → Option ℕ) → ((q : List ℕ) → place_at q ≡ None) → IsIndex place_at []
-index-empty place_at none =
-    record {
-      new = tt;
-      finds = λ n. subst (IsFound [] n) (sym (none (name_key n))) (none-empty n);
-    }
+-- among good entries that are new each name is found, or it is not held
+finds : (es : List Entry) → AllByRecursion HasItsChildren es → AreNew finite.empty es → (n : Name) → (o : Option ℕ) × IsFound es n o
+finds es = found-more [] es (λ n. (None, none-empty n))
 
--- ---- what a look-up finds
+named_not : (es : List Entry) (n : Name) (k : ℕ) (d : Entry) → NoneNamed n es → k < length es → (get_or es k d).name ≡ n → ⊥
+named_not [] n k d none less is = absurd (omega (arith, less))
+named_not (e ∷ es) n zero d none less is = none.0 is
+named_not (e ∷ es) n (suc k) d none less is = named_not es n k d none.1 (omega (arith, less)) is
 
-pub found : (place_at : List ℕ → Option ℕ) (es : List Entry) (n : Name) (key : List ℕ) (place : ℕ) (e : Entry) → key ≡ name_key n → IsIndex place_at es → place_at key ≡ Some place → e ≡ get_or es place e → IsEntryOf (stored_in es) n e
-found place_at es n key place e key_is index is here =
-    let s : StandsAt es n place = subst (IsFound es n) (ap place_at (sym key_is) ∙ is) (index.finds n) in
-    subst (IsEntryOf (stored_in es) n) (s.there ∙ get_or_default es place s.entry e s.inside ∙ sym here) s.is
+one_of : (es : List Entry) (place : ℕ) → place < length es → Entry
+one_of [] place less = absurd (omega (arith, less))
+one_of (e ∷ es) place less = e
 
-pub inside : (place_at : List ℕ → Option ℕ) (es : List Entry) (n : Name) (key : List ℕ) (place : ℕ) → key ≡ name_key n → IsIndex place_at es → place_at key ≡ Some place → place < length es
-inside place_at es n key place key_is index is =
-    let s : StandsAt es n place = subst (IsFound es n) (ap place_at (sym key_is) ∙ is) (index.finds n) in s.inside
+-- a name that an entry has is held
+pub named_held : (es : List Entry) (n : Name) (place : ℕ) → AreNew finite.empty es → IsNamed es n place → body_of (bodies_in es) n ≡ None → ⊥
+named_held es n place new is none =
+    let e : Entry = one_of es place is.0 in
+    named_not es n place e (none_named finite.empty es n none) is.0 (is.1 e)
 
-pub missing : (place_at : List ℕ → Option ℕ) (es : List Entry) (n : Name) (key : List ℕ) → key ≡ name_key n → IsIndex place_at es → place_at key ≡ None → body_of (bodies_in es) n ≡ None
-missing place_at es n key key_is index is = subst (IsFound es n) (ap place_at (sym key_is) ∙ is) (index.finds n)
+three_ways : (a b : ℕ) → (a < b) ⊎ ((b < a) ⊎ (a ≡ b))
+three_ways zero zero = inr (inr refl)
+three_ways zero (suc b) = inl (omega arith)
+three_ways (suc a) zero = inr (inl (omega arith))
+three_ways (suc a) (suc b) = by_rest (three_ways a b)
+  where
+    by_rest : (a < b) ⊎ ((b < a) ⊎ (a ≡ b)) → (suc a < suc b) ⊎ ((suc b < suc a) ⊎ (suc a ≡ suc b))
+    by_rest (inl less) = inl (omega (arith, less))
+    by_rest (inr (inl more)) = inr (inl (omega (arith, more)))
+    by_rest (inr (inr same)) = inr (inr (ap suc same))
 
--- ---- where a key leads that is led to a place unless it leads somewhere
+-- no earlier entry has the name of a later one
+pub no_twin : (es : List Entry) (n : Name) (i j : ℕ) → AreNew finite.empty es → i < j → IsNamed es n i → IsNamed es n j → ⊥
+no_twin es n i j new less a b =
+    let d : Entry = one_of es j b.0 in
+    let f : Entry = get_or es j d in
+    let none : body_of (added finite.empty (take j es)) f.name ≡ None = new-at finite.empty es j f b.0 (get_or_default es j d f b.0) new in
+    let none_n : body_of (added finite.empty (take j es)) n ≡ None = subst (λ (m : Name). body_of (added finite.empty (take j es)) m ≡ None) (b.1 d) none in
+    let inside_j = b.0 in
+    let len : length (take j es) ≡ j = length-take-le j es (omega (arith, inside_j)) in
+    named_not (take j es) n i d (none_named finite.empty (take j es) n none_n) (omega (arith, len, less)) (ap (λ (x : Entry). x.name) (get_or-take j es i d less) ∙ a.1 d)
 
-led_where : (o : Option ℕ) (place led : ℕ) → led ≡ unwrap_or o place → led < place → o ≡ Some led
-led_where None place led is less = absurd (omega (arith, is, less))
-led_where (Some k) place led is less = ap (λ (n : ℕ). Some n) (sym is)
+pub as_named : (es : List Entry) (n : Name) (place : ℕ) → StandsAt es n place → IsNamed es n place
+as_named es n place s = (s.inside, λ d. ap (λ (x : Entry). x.name) (sym (s.there ∙ get_or_default es place s.entry d s.inside)) ∙ s.is.name)
 
--- one that led somewhere leads there still, and so do the others
-pub led-same : (old new : List ℕ → Option ℕ) (key : List ℕ) (place led : ℕ) → IsLed old new key place led → led < place → (q : List ℕ) → new q ≡ old q
-led-same old new key place led l less q =
-    l.now q
-    ∙ elim (at key q) as (λ b. at key q ≡ b → cond b (Some led) (old q) ≡ old q) [
-      | true ↦ λ t. sym (led_where (old key) place led l.leads less) ∙ ap old (same_list key q t)
-      | false ↦ λ _. refl
-    ] refl
+-- where an entry has the name, the name's entry stands
+pub stands : (es : List Entry) (n : Name) (place : ℕ) → AllByRecursion HasItsChildren es → AreNew finite.empty es → IsNamed es n place → StandsAt es n place
+stands es n place good new is = by_found (finds es good new n).0 (finds es good new n).1
+  where
+    by_place : (k : ℕ) → StandsAt es n k → (place < k) ⊎ ((k < place) ⊎ (place ≡ k)) → StandsAt es n place
+    by_place k s (inl less) = absurd (no_twin es n place k new less is (as_named es n k s))
+    by_place k s (inr (inl more)) = absurd (no_twin es n k place new more (as_named es n k s) is)
+    by_place k s (inr (inr same)) = subst (StandsAt es n) (sym same) s
 
-pub led_nowhere : (old : List ℕ → Option ℕ) (es : List Entry) (n : Name) (key : List ℕ) (place led : ℕ) → key ≡ name_key n → IsIndex old es → place ≡ length es → led ≡ unwrap_or (old key) place → place ≤ led → old key ≡ None
-led_nowhere old es n key place led key_is index all is past =
-    elim (old key) as (λ o. old key ≡ o → led ≡ unwrap_or o place → o ≡ None) [
-      | None ↦ λ _ _. refl
-      | Some k ↦ λ e there. absurd (let less = inside old es n key k key_is index e in omega (arith, less, there, all, past))
-    ] refl is
+    by_found : (o : Option ℕ) → IsFound es n o → StandsAt es n place
+    by_found None none = absurd (named_held es n place new is none)
+    by_found (Some k) s = by_place k s (three_ways place k)
 
--- one that led nowhere leads to the place
-pub led-new : (old new : List ℕ → Option ℕ) (es : List Entry) (n : Name) (key : List ℕ) (place led : ℕ) → key ≡ name_key n → IsIndex old es → place ≡ length es → IsLed old new key place led → place ≤ led
-    → (q : List ℕ) → new q ≡ cond (at key q) (Some (length es)) (old q)
-led-new old new es n key place led key_is index all l past q =
-    let none = led_nowhere old es n key place led key_is index all l.leads past in
-    l.now q ∙ ap (λ (k : ℕ). cond (at key q) (Some k) (old q)) (l.leads ∙ ap (λ (o : Option ℕ). unwrap_or o place) none ∙ all)
+-- a name that no entry has is not held
+pub unnamed : (es : List Entry) (n : Name) → AllByRecursion HasItsChildren es → AreNew finite.empty es → ((place : ℕ) → IsNamed es n place → ⊥) → body_of (bodies_in es) n ≡ None
+unnamed es n good new none = by_found (finds es good new n).0 (finds es good new n).1
+  where
+    by_found : (o : Option ℕ) → IsFound es n o → body_of (bodies_in es) n ≡ None
+    by_found None is = is
+    by_found (Some k) s = absurd (none k (as_named es n k s))
+
+-- what stands at a place, as it was read there
+pub read_there : (es : List Entry) (n : Name) (place : ℕ) (e : Entry) → StandsAt es n place → e ≡ get_or es place e → IsEntryOf (stored_in es) n e
+read_there es n place e s here = subst (IsEntryOf (stored_in es) n) (s.there ∙ get_or_default es place s.entry e s.inside ∙ sym here) s.is
 
 -- ---- the graph of what is held
 
@@ -232,27 +231,27 @@ childless-added children (e ∷ es) n h none =
 pub childless : (es : List Entry) (n : Name) → body_of (bodies_in es) n ≡ None → children_in (stored_in es) n ≡ None
 childless es n none = childless-added finite.empty es n (none_named finite.empty es n none) (finite.get-empty name_cmp n)
 
-found_entry : (place_at : List ℕ → Option ℕ) (es : List Entry) (n : Name) → IsIndex place_at es → (body_of (bodies_in es) n ≡ None → ⊥) → (e : Entry) × IsEntryOf (stored_in es) n e
-found_entry place_at es n index held =
-    elim (place_at (name_key n)) as (λ o. IsFound es n o → (e : Entry) × IsEntryOf (stored_in es) n e) [
-      | None ↦ λ none. absurd (held none)
-      | Some place ↦ λ s. (s.entry, s.is)
-    ] (index.finds n)
+found_entry : (es : List Entry) (n : Name) → AllByRecursion HasItsChildren es → AreNew finite.empty es → (body_of (bodies_in es) n ≡ None → ⊥) → (e : Entry) × IsEntryOf (stored_in es) n e
+found_entry es n good new held = by_found (finds es good new n).0 (finds es good new n).1
+  where
+    by_found : (o : Option ℕ) → IsFound es n o → (e : Entry) × IsEntryOf (stored_in es) n e
+    by_found None none = absurd (held none)
+    by_found (Some place) s = (s.entry, s.is)
 
-pub graph_is : (place_at : List ℕ → Option ℕ) (es : List Entry) → IsIndex place_at es → IsGraphOf (bodies_in es) (children_in (stored_in es))
-graph_is place_at es index =
+pub graph_is : (es : List Entry) → AllByRecursion HasItsChildren es → AreNew finite.empty es → IsGraphOf (bodies_in es) (children_in (stored_in es))
+graph_is es good new =
     record {
       held = λ n kids is.
-          let found = found_entry place_at es n index (λ none. let c = childless es n none in let f : Some kids ≡ None = sym is ∙ c in absurd (cc)) in
+          let found = found_entry es n good new (λ none. let c = childless es n none in let f : Some kids ≡ None = sym is ∙ c in absurd (cc)) in
           let e = found.0 in
           let entry = found.1 in
-          let good : AreChildren n.kind e.body e.kids = subst (λ (m : Name). AreChildren m.kind e.body e.kids) entry.name entry.good.kids in
-          (e.body, entry.held, subst (AreChildren n.kind e.body) (same_kids e.kids kids (sym entry.kids ∙ is)) good);
+          let kids_good : AreChildren n.kind e.body e.kids = subst (λ (m : Name). AreChildren m.kind e.body e.kids) entry.name entry.good.kids in
+          (e.body, entry.held, subst (AreChildren n.kind e.body) (same_kids e.kids kids (sym entry.kids ∙ is)) kids_good);
       missing = λ n none.
           elim (body_of (bodies_in es) n) as (λ o. body_of (bodies_in es) n ≡ o → body_of (bodies_in es) n ≡ None) [
             | None ↦ λ is. is
             | Some body ↦ λ is.
-                let found = found_entry place_at es n index (λ nothing. let f : Some body ≡ None = sym is ∙ nothing in absurd (cc)) in
+                let found = found_entry es n good new (λ nothing. let f : Some body ≡ None = sym is ∙ nothing in absurd (cc)) in
                 let kids = found.1.kids in absurd (let f : Some found.0.kids ≡ None = sym kids ∙ none in cc)
           ] refl;
     }
@@ -270,5 +269,5 @@ size-added bodies (e ∷ es) h =
     finite.len-insert name_cmp_total bodies e.name e.body ∙ ap (λ (o : Option (List ℕ)). cond (is_some o) (finite.len bodies) (finite.len bodies + 1)) h.0 in
     omega (arith, more, one)
 
-pub size : (place_at : List ℕ → Option ℕ) (es : List Entry) → IsIndex place_at es → finite.len (bodies_in es) ≡ length es
-size place_at es index = let empty = finite.len-empty name_cmp (List ℕ) in let more = size-added finite.empty es index.new in omega (arith, empty, more)
+pub size : (es : List Entry) → AreNew finite.empty es → finite.len (bodies_in es) ≡ length es
+size es new = let empty = finite.len-empty name_cmp (List ℕ) in let more = size-added finite.empty es new in omega (arith, empty, more)

@@ -1,6 +1,5 @@
 pub mod IndexLemmas
 pub mod AddingLemmas
-pub mod FirstPlaces
 pub mod Fronts
-pub mod MarkLemmas
+pub mod PlaceLemmas
 pub mod KeyLemmas

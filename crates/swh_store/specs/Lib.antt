@@ -1,4 +1,5 @@
 pub mod Stored
 pub mod Entries
 pub mod Adding
+pub mod Places
 pub mod Front

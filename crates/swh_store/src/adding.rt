@@ -5,13 +5,12 @@ ghost use Rattle.swh_base.specs.declared.name.Name.{Name};
 ghost use Rattle.swh_model.specs.Archive.{Bodies, body_of};
 ghost use Rattle.swh_model.specs.Step.{HasItsChildren};
 ghost use Rattle.swh_model.specs.Judge.{not_held, Collides};
-ghost use Rattle.swh_store.specs.Entries.{bodies_in, IsIndexed};
+ghost use Rattle.swh_store.specs.Entries.{bodies_in};
+ghost use Rattle.swh_store.specs.Places.{IsIndexed};
 ghost use Rattle.swh_store.specs.Adding.{IsStanding, Joins, IsTakenUp, IsEntryFault, IsStoreFault};
 
-use crate::entries::{Held, lead, push_again};
+use crate::entries::{Held, push_again};
 use crate::fault::StoreFault;
-use crate::key::key_of;
-use crate::marks::set_mark;
 use swh_base::{Entry, Memory};
 
 /// How an entry stands to what is held.
@@ -61,14 +60,10 @@ pub fn join(held: &mut Held, entry: Entry) -> Result<Standing, Memory>
     ensures ok { IfOk result (Joins held.old.entries.items held.new.entries.items entry) }
     ensures err { OnErr result (held.new.entries.items ≡ held.old.entries.items) }
 {
-    held.entries.reserve(1)?;
-    let place = held.entries.len();
-    let at = lead(&mut held.places, key_of(&entry.name), place)?;
-    if at < place {
-        return Ok(standing_beside(&held.entries[at], &entry));
+    if let Some(known) = held.get(&entry.name) {
+        return Ok(standing_beside(known, &entry));
     }
-    set_mark(&mut held.marks, &entry.name);
-    held.entries.push_reserved(entry);
+    held.push(entry)?;
     Ok(Standing::New)
 }
 

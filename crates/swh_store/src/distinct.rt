@@ -14,7 +14,7 @@ pub struct Distinct {
 impl Model for Distinct {
     ghost use Rattle.std.specs.Prelude.{List};
     ghost use Rattle.swh_base.specs.declared.entry.Entry.{Entry};
-    ghost use Rattle.swh_store.specs.Entries.{IsIndexed};
+    ghost use Rattle.swh_store.specs.Places.{IsIndexed};
 
     ghost Value = { List Entry };
 

@@ -1,29 +1,14 @@
 //! Entries in the order of their adding, and the place of each by its name's key.
-use crate::key::{Key, key_of};
-use crate::marks::{marks_of, may_hold, set_mark};
+use crate::places::Places;
 use std::alloc::Global;
-use std::collections::BTreeMap;
 use swh_base::{Entry, Memory, Name};
 
-/// Entries of which no two have one name. The map holds their places alone, so that its nodes are small; those that were
-/// added last can be taken out again, which wants no memory. Where there are marks, one that is not set spares a look-up.
+/// Entries of which no two have one name, and where each stands. Those that were added last can be taken out again, which
+/// wants no memory.
 #[derive(Drop)]
 pub struct Held {
-    pub places: BTreeMap<Key, usize>,
-    pub marks: Vec<u64>,
+    pub places: Places,
     pub entries: Vec<Entry>,
-}
-
-ghost use Rattle.std.specs.Prelude.{◌≡◌, IfOk, OnErr};
-ghost use Rattle.std.specs.BTreeMap.{get, IsUnchanged};
-ghost use Rattle.swh_store.specs.Entries.{keys_cmp, IsLed};
-
-/// The place to which a key leads: where it led nowhere, it leads to this one from now on. The key is looked for once.
-pub fn lead(places: &mut BTreeMap<Key, usize>, key: Key, place: usize) -> Result<usize, Memory>
-    ensures ok { IfOk result (IsLed (get keys_cmp places.old) (get keys_cmp places.new) key place) }
-    ensures err { OnErr result (IsUnchanged places.old places.new) }
-{
-    Ok(*places.entry(key)?.or_insert(place))
 }
 
 impl Held {
@@ -32,7 +17,8 @@ impl Held {
     ghost use Rattle.swh_model.specs.Archive.{body_of};
     ghost use Rattle.swh_model.specs.Step.{HasItsChildren, AreNew};
     ghost use Rattle.swh_store.specs.Stored.{IsEntryOf};
-    ghost use Rattle.swh_store.specs.Entries.{bodies_in, stored_in, IsIndexed};
+    ghost use Rattle.swh_store.specs.Entries.{bodies_in, stored_in};
+    ghost use Rattle.swh_store.specs.Places.{IsIndexed};
 
     /// No entries, and no marks. It takes no memory.
     pub fn new(alloc: Global) -> Held
@@ -40,8 +26,7 @@ impl Held {
         ensures none { result.entries.items ≡ [] }
     {
         Held {
-            places: BTreeMap::new(alloc),
-            marks: Vec::new(alloc),
+            places: Places::new(alloc),
             entries: Vec::new(alloc),
         }
     }
@@ -52,13 +37,8 @@ impl Held {
         ensures some { IfSome result (λ entry. IsEntryOf (stored_in self.now.entries.items) name.now entry.now) }
         ensures none { IfNone result (body_of (bodies_in self.now.entries.items) name.now ≡ None) }
     {
-        if !may_hold(self.marks.as_slice(), name) {
-            return None;
-        }
-        match self.places.get(&key_of(name)) {
-            Some(place) => Some(&self.entries[*place]),
-            None => None,
-        }
+        let place = self.places.find(self.entries.as_slice(), name)?;
+        Some(&self.entries[place])
     }
 
     /// Adds an entry whose name is not held.
@@ -71,26 +51,9 @@ impl Held {
         ensures err { OnErr result (self.new.entries.items ≡ self.old.entries.items) }
     {
         self.entries.reserve(1)?;
-        self.places.insert(key_of(&entry.name), self.entries.len())?;
-        set_mark(&mut self.marks, &entry.name);
+        self.places.add(self.entries.as_slice(), &entry.name)?;
         self.entries.push_reserved(entry);
         Ok(())
-    }
-
-    /// Makes marks, where there are none and the entries are many. Where memory is short there are none, which costs time
-    /// alone.
-    fn add_marks(&mut self)
-        requires { IsIndexed self.old }
-        ensures indexed { IsIndexed self.new }
-        ensures same { self.new.entries.items ≡ self.old.entries.items }
-    {
-        if !self.marks.is_empty() {
-            return;
-        }
-        let alloc = *self.entries.allocator();
-        if let Ok(marks) = marks_of(alloc, self.entries.as_slice()) {
-            self.marks = marks;
-        }
     }
 
     /// Adds entries whose names are not held, one after another, and takes them out again where memory runs out.
@@ -102,7 +65,6 @@ impl Held {
         ensures ok { OnOk result (self.new.entries.items ≡ self.old.entries.items ++ entries.now) }
         ensures err { OnErr result (self.new.entries.items ≡ self.old.entries.items) }
     {
-        self.add_marks();
         let before = self.entries.len();
         for entry in entries {
             if let Err(fault) = push_again(self, entry) {
@@ -119,7 +81,7 @@ impl Held {
         ensures rest { self.new.entries.items ≡ take (length self.old.entries.items - 1) self.old.entries.items }
     {
         if let Some(entry) = self.entries.pop() {
-            self.places.remove(&key_of(&entry.name));
+            self.places.forget(&entry);
         }
     }
 
@@ -127,11 +89,7 @@ impl Held {
     pub fn into_entries(self) -> Vec<Entry>
         ensures { result.items ≡ self.entries.items }
     {
-        let Held {
-            places: _,
-            marks: _,
-            entries,
-        } = self;
+        let Held { places: _, entries } = self;
         entries
     }
 
@@ -147,10 +105,11 @@ impl Held {
     }
 }
 
-ghost use Rattle.std.specs.Prelude.{◌∷◌, ◌++◌, [], None, OnOk, OnErr};
+ghost use Rattle.std.specs.Prelude.{◌≡◌, ◌∷◌, ◌++◌, [], None, OnOk, OnErr};
 ghost use Rattle.swh_model.specs.Archive.{body_of};
 ghost use Rattle.swh_model.specs.Step.{HasItsChildren};
-ghost use Rattle.swh_store.specs.Entries.{bodies_in, IsIndexed};
+ghost use Rattle.swh_store.specs.Entries.{bodies_in};
+ghost use Rattle.swh_store.specs.Places.{IsIndexed};
 
 /// Adds an equal entry, which shares the body.
 pub fn push_again(held: &mut Held, entry: &Entry) -> Result<(), Memory>

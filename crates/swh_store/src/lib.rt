@@ -10,7 +10,7 @@ mod distinct;
 mod entries;
 mod fault;
 mod key;
-mod marks;
+mod places;
 mod preloaded;
 mod store;
 

@@ -1,22 +1,13 @@
 //! The entries of a whole history, of which a front is shown.
-ghost use Rattle.std.specs.Prelude.{◌≡◌, ◌<◌, ◌+◌, ◌↔◌, IsTrue, IfOk, length, take};
-ghost use Rattle.std.specs.List.{AllByRecursion};
-ghost use Rattle.std.specs.FinMap as finite;
-ghost use Rattle.swh_model.specs.Step.{HasItsChildren, AreNew};
-ghost use Rattle.swh_store.specs.Front.{backwards, IsFirstIndex, AreFresh};
-
 use crate::entries::Held;
-use crate::key::{Key, key_of};
-use crate::marks::marks_of;
+use crate::places::places_of;
 use crate::store::Store;
 use std::alloc::Global;
-use std::collections::BTreeMap;
 use std::marker::Model;
 use swh_base::{Entry, Graph, Memory, Name};
 
-/// The entries of a whole history in the order of their adding, of which a front is shown as a store. All are sorted by
-/// their names at once: of many names that is several times as fast as to put one after another into an ordered map, and
-/// no choice of names makes it longer than n log n.
+/// The entries of a whole history in the order of their adding, of which a front is shown as a store. Those in front of
+/// the first whose name an earlier one has are found by their names; of the others none is ever shown.
 #[derive(Drop)]
 pub struct Preloaded {
     held: Held,
@@ -38,66 +29,6 @@ impl Model for Preloaded {
     ghost invariant = { λ p. IsPreloaded p.held p.fresh p.shown };
 }
 
-/// The keys of the names with their places, from the last to the first.
-fn places_backwards(alloc: Global, entries: &[Entry]) -> Result<Vec<(Key, usize)>, Memory>
-    ensures { IfOk result (λ pairs. pairs.items ≡ backwards 0 entries.now) }
-{
-    let mut pairs = Vec::with_capacity(alloc, entries.len())?;
-    let mut left = entries.len();
-    while left > 0 {
-        left -= 1;
-        pairs.push((key_of(&entries[left].name), left))?;
-    }
-    Ok(pairs)
-}
-
-/// Leads each name to the first entry that has it: of pairs of one key the last that is put in stays.
-fn index(alloc: Global, entries: Vec<Entry>) -> Result<Held, Memory>
-    requires { AllByRecursion HasItsChildren entries.items }
-    ensures index { IfOk result IsFirstIndex }
-    ensures same { IfOk result (λ held. held.entries.items ≡ entries.items) }
-{
-    let pairs = places_backwards(alloc, entries.as_slice())?;
-    let places = BTreeMap::from_iter(alloc, pairs)?;
-    let marks = marks_of(alloc, entries.as_slice())?;
-    Ok(Held {
-        places,
-        marks,
-        entries,
-    })
-}
-
-/// Whether the entry behind new ones is new too, which it is where its name leads to it.
-fn is_new(held: &Held, place: usize) -> bool
-    requires index { IsFirstIndex held.now }
-    requires inside { place < length held.now.entries.items }
-    requires before { AreNew finite.empty (take place held.now.entries.items) }
-    ensures { IsTrue result ↔ AreNew finite.empty (take (place + 1) held.now.entries.items) }
-{
-    match held.places.get(&key_of(&held.entries[place].name)) {
-        Some(first) => *first == place,
-        None => false,
-    }
-}
-
-/// How many entries stand in front of the first whose name an earlier one has. Where there are as many names as entries
-/// no name is looked up again.
-fn count_fresh(held: &Held) -> usize
-    requires { IsFirstIndex held.now }
-    ensures { AreFresh held.now.entries.items result }
-{
-    let count = held.entries.len();
-    if held.places.len() == count {
-        return count;
-    }
-    for place in 0..count {
-        if !is_new(held, place) {
-            return place;
-        }
-    }
-    count
-}
-
 impl Preloaded {
     ghost use Rattle.std.specs.Prelude.{◌≡◌, ◌≤◌, ◌↔◌, [], None, false, IsTrue, IfOk, IfSome, IfNone, length, take, drop};
     ghost use Rattle.std.specs.List.{AllByRecursion};
@@ -111,8 +42,8 @@ impl Preloaded {
         ensures none { IfOk result (λ preloaded. preloaded.shown ≡ empty_store) }
         ensures rest { IfOk result (λ preloaded. preloaded.rest ≡ entries.items) }
     {
-        let held = index(alloc, entries)?;
-        let fresh = count_fresh(&held);
+        let (places, fresh) = places_of(alloc, entries.as_slice())?;
+        let held = Held { places, entries };
         let shown = 0;
         Ok(Preloaded { held, fresh, shown })
     }
@@ -139,7 +70,8 @@ impl Preloaded {
         ensures none { IfNone result (body_of self.now.shown.bodies name.now ≡ None) }
         ensures childless { IfNone result (children_in self.now.shown name.now ≡ None) }
     {
-        let place = *self.held.places.get(&key_of(name))?;
+        let fresh = &self.held.entries[..self.fresh];
+        let place = self.held.places.find(fresh, name)?;
         if place < self.shown {
             Some(&self.held.entries[place])
         } else {

@@ -16,7 +16,8 @@ pub struct Store {
 
 impl Model for Store {
     ghost use Rattle.swh_store.specs.Stored.{Stored, stored_code};
-    ghost use Rattle.swh_store.specs.Entries.{stored_in, IsIndexed};
+    ghost use Rattle.swh_store.specs.Entries.{stored_in};
+    ghost use Rattle.swh_store.specs.Places.{IsIndexed};
 
     ghost Value = { Stored };
 

@@ -1,4 +1,4 @@
-use Rattle.swh_store.specs.Entries.{IsIndexed}
+use Rattle.swh_store.specs.Places.{IsIndexed}
 use Rattle.swh_store.proofs.AddingLemmas.{Added}
 use Rattle.swh_store.proofs.adding.add_each.Given as goal
 

@@ -1,5 +1,5 @@
 use Rattle.std.proofs.Common.{◌≡◌, take, length}
-use Rattle.swh_store.specs.Entries.{IsIndexed}
+use Rattle.swh_store.specs.Places.{IsIndexed}
 use Rattle.swh_store.proofs.entries.Held.cut.Given as goal
 
 abbrev pub invariant-loop-self : goal.invariant-loop-self

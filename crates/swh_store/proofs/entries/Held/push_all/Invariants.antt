@@ -1,5 +1,5 @@
 use Rattle.std.proofs.Common.{◌≡◌, ◌++◌, take}
-use Rattle.swh_store.specs.Entries.{IsIndexed}
+use Rattle.swh_store.specs.Places.{IsIndexed}
 use Rattle.swh_store.proofs.entries.Held.push_all.Given as goal
 
 abbrev pub invariant-loop-entry : goal.invariant-loop-entry
