@@ -169,7 +169,7 @@ named_held es n place new is none =
     let e : Entry = one_of es place is.0 in
     named_not es n place e (none_named finite.empty es n none) is.0 (is.1 e)
 
-three_ways : (a b : ℕ) → (a < b) ⊎ ((b < a) ⊎ (a ≡ b))
+pub three_ways : (a b : ℕ) → (a < b) ⊎ ((b < a) ⊎ (a ≡ b))
 three_ways zero zero = inr (inr refl)
 three_ways zero (suc b) = inl (omega arith)
 three_ways (suc a) zero = inr (inl (omega arith))

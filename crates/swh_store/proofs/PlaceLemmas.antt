@@ -1,5 +1,5 @@
 -- What slots and the map say of names, with one entry more or less.
-use Rattle.std.proofs.Common.{◌≡◌, ◌≢◌, ◌⊎◌, inl, inr, ℕ, zero, suc, ◌+◌, ◌-◌, ◌<◌, ◌≤◌, Bool, true, false, cond, Option, Some, None, List, [], ◌∷◌, ◌++◌, length, take, get_or, refl, sym, ap, ◌∙◌, subst, arith}
+use Rattle.std.proofs.Common.{◌≡◌, ◌≢◌, ◌⊎◌, inl, inr, ℕ, zero, suc, ◌+◌, ◌%◌, ◌<◌, Bool, true, false, cond, Option, Some, None, List, [], ◌∷◌, ◌++◌, length, take, get_or, refl, sym, ap, ◌∙◌, subst, arith}
 use Rattle.std.specs.Prelude.{is_some}
 use Rattle.std.specs.List.{AllByRecursion}
 use Rattle.std.specs.FinMap as finite
@@ -14,8 +14,8 @@ use Rattle.swh_model.proofs.Entries.{none-empty, new-push}
 use Rattle.swh_model.proofs.PlainLists.{take-more}
 use Rattle.swh_store.specs.declared.places.Places.{Places}
 use Rattle.swh_store.specs.Entries.{bodies_in, IsNamed, IsFound}
-use Rattle.swh_store.specs.Places.{mark_at, other_at, IsLed, IsPlaced, IsPut, MarksStay, StaysPut}
-use Rattle.swh_store.proofs.IndexLemmas.{at, same_key, key_itself, apart-by_key, body-other, finds-more, finds-last, finds-fewer, new_front, new-last, named_held, as_named}
+use Rattle.swh_store.specs.Places.{number_of, slot_of, mark_at, mark_behind, other_at, NoneLeads, AreTaken, IsNowhere, IsLedFirst, IsPlaced, IsPut, MarksStay, StaysPut}
+use Rattle.swh_store.proofs.IndexLemmas.{at, same_key, key_itself, apart-by_key, body-other, finds-more, finds-last, finds-fewer, new_front, new-last, named_held, as_named, three_ways}
 
 -- a name is this one, or it is not
 pub same_or_apart : (n m : Name) → (n ≡ m) ⊎ (n ≢ m)
@@ -59,15 +59,63 @@ named-fewer es e n place apart is = (less, λ d. ap (λ (x : Entry). x.name) (sy
 
 -- ---- slots that lead where they led
 
-stays_free : (old new : List ℕ) (n : Name) → MarksStay old new → mark_at new n ≡ 0 → mark_at old n ≡ 0
-stays_free old new n stay free = by_mark (mark_at old n) refl
-  where
-    by_mark : (mark : ℕ) → mark_at old n ≡ mark → mark_at old n ≡ 0
-    by_mark zero is = is
-    by_mark (suc place) is = absurd (let led = stay n place is in let no : 0 ≡ suc place = sym free ∙ led in cc)
+pub slot-same : (old new : List ℕ) (n : Name) → length new ≡ length old → slot_of new n ≡ slot_of old n
+slot-same [] [] n many = refl
+slot-same [] (mark ∷ new) n many = absurd (omega (arith, many))
+slot-same (mark ∷ old) [] n many = absurd (omega (arith, many))
+slot-same (mark ∷ old) (other ∷ new) n many = ap (λ (count : ℕ). number_of n % count) many
 
-led-stays : (old new : List ℕ) (es : List Entry) (n : Name) → MarksStay old new → IsLed old es n → IsLed new es n
-led-stays old new es n stay led = (led.0, stay n led.0 led.1, led.2)
+pub behind-same : (old new : List ℕ) (n : Name) (step : ℕ) → length new ≡ length old → mark_behind new n step ≡ mark_at new (slot_of old n + step)
+behind-same old new n step many = ap (λ (slot : ℕ). mark_at new (slot + step)) (slot-same old new n many)
+
+mark-stays : (old new : List ℕ) (n : Name) (step place : ℕ) → MarksStay old new → mark_behind old n step ≡ suc place → mark_behind new n step ≡ suc place
+mark-stays old new n step place stay led = behind-same old new n step stay.many ∙ stay.each (slot_of old n + step) place led
+
+stays_free : (old new : List ℕ) (n : Name) (step : ℕ) → MarksStay old new → mark_behind new n step ≡ 0 → mark_behind old n step ≡ 0
+stays_free old new n step stay free = by_mark (mark_behind old n step) refl
+  where
+    by_mark : (mark : ℕ) → mark_behind old n step ≡ mark → mark_behind old n step ≡ 0
+    by_mark zero is = is
+    by_mark (suc place) is = absurd (let led = mark-stays old new n step place stay is in let never : 0 ≡ suc place = sym free ∙ led in cc)
+
+pub stay_twice : (a b c : List ℕ) → MarksStay a b → MarksStay b c → MarksStay a c
+stay_twice a b c first second = record { many = second.many ∙ first.many; each = λ slot place led. second.each slot place (first.each slot place led) }
+
+pub stay-same : (a : List ℕ) → MarksStay a a
+stay-same a = record { many = refl; each = λ slot place led. led }
+
+-- slots that were taken are taken still
+pub taken-stay : (old new : List ℕ) (n : Name) (count : ℕ) → MarksStay old new → AreTaken old n count → AreTaken new n count
+taken-stay old new n count stay taken step less free = taken step less (stays_free old new n step stay free)
+
+pub taken-next : (slots : List ℕ) (n : Name) (count : ℕ) → AreTaken slots n count → (mark_behind slots n count ≡ 0 → ⊥) → AreTaken slots n (count + 1)
+taken-next slots n count taken last step less free = by_order (three_ways step count)
+  where
+    by_order : (step < count) ⊎ ((count < step) ⊎ (step ≡ count)) → ⊥
+    by_order (inl before) = taken step before free
+    by_order (inr (inl behind)) = omega (arith, less, behind)
+    by_order (inr (inr same)) = last (ap (mark_behind slots n) (sym same) ∙ free)
+
+pub none-next : (slots : List ℕ) (es : List Entry) (n : Name) (count : ℕ) → NoneLeads slots es n count → ((place : ℕ) → mark_behind slots n count ≡ suc place → IsNamed es n place → ⊥) → NoneLeads slots es n (count + 1)
+none-next slots es n count none last step less place led named = by_order (three_ways step count)
+  where
+    by_order : (step < count) ⊎ ((count < step) ⊎ (step ≡ count)) → ⊥
+    by_order (inl before) = none step before place led named
+    by_order (inr (inl behind)) = omega (arith, less, behind)
+    by_order (inr (inr same)) = last place (ap (mark_behind slots n) (sym same) ∙ led) named
+
+-- where no later slots lead, no earlier ones did
+none-before : (old new : List ℕ) (es : List Entry) (n : Name) (count : ℕ) → MarksStay old new → NoneLeads new es n count → NoneLeads old es n count
+none-before old new es n count stay none step less place led named = none step less place (mark-stays old new n step place stay led) named
+
+none-fewer : (slots : List ℕ) (es : List Entry) (e : Entry) (n : Name) (count : ℕ) → NoneLeads slots (es ++ e ∷ []) n count → NoneLeads slots es n count
+none-fewer slots es e n count none step less place led named = none step less place led (named-more es e n place named)
+
+none-more : (slots : List ℕ) (es : List Entry) (e : Entry) (n : Name) (count : ℕ) → n ≢ e.name → NoneLeads slots es n count → NoneLeads slots (es ++ e ∷ []) n count
+none-more slots es e n count other none step less place led named = none step less place led (named-fewer es e n place other named)
+
+nowhere-before : (old new : List ℕ) (es : List Entry) (n : Name) → MarksStay old new → IsNowhere new es n → IsNowhere old es n
+nowhere-before old new es n stay is = (is.0, is.1, stays_free old new n is.0 stay is.2, none-before old new es n is.0 stay is.3)
 
 -- ---- places
 
@@ -85,37 +133,45 @@ placed-stay old new es stay placed =
     record {
       good = placed.good;
       new = placed.new;
-      free = λ n is. placed.free n (stays_free old.slots.items new.slots.items n stay.marks is);
-      rest = λ n not. subst (IsFound es n) (sym (stay.others n)) (placed.rest n (λ led. not (led-stays old.slots.items new.slots.items es n stay.marks led)));
+      free = λ n is. placed.free n (nowhere-before old.slots.items new.slots.items es n stay.marks is);
+      rest = λ n not. subst (IsFound es n) (sym (stay.others n)) (placed.rest n (none-before old.slots.items new.slots.items es n 4 stay.marks not));
     }
 
 -- one entry more, whose name was led to its place
 pub placed-push : (old new : Places) (es : List Entry) (e : Entry) → IsPlaced old es → IsPut old new e.name (length es) → HasItsChildren e → body_of (bodies_in es) e.name ≡ None → IsPlaced new (es ++ e ∷ [])
-placed-push old new es e placed put good none =
+placed-push old new es e placed put good absent =
     record {
       good = good-push es e placed.good good;
-      new = new-push finite.empty es e placed.new none;
-      free = λ n is. body-other es e n (apart n is) ∙ placed.free n (stays_free old.slots.items new.slots.items n put.marks is);
+      new = new-push finite.empty es e placed.new absent;
+      free = λ n is. body-other es e n (apart n is) ∙ placed.free n (nowhere-before old.slots.items new.slots.items es n put.marks (is.0, is.1, is.2, none-fewer new.slots.items es e n is.0 is.3));
       rest = λ n not. by_name n not (same_or_apart n e.name);
     }
   where
-    apart : (n : Name) → mark_at new.slots.items n ≡ 0 → n ≢ e.name
-    apart n is same = put.taken (subst (λ (m : Name). mark_at new.slots.items m ≡ 0) same is)
+    all : List Entry
+    all = es ++ e ∷ []
 
-    led-more : (n : Name) → IsLed old.slots.items es n → IsLed new.slots.items (es ++ e ∷ []) n
-    led-more n led = (led.0, put.marks n led.0 led.1, named-more es e n led.0 led.2)
+    -- the name's own slots are taken up to the one that leads to its entry, or all of them
+    not_nowhere : IsNowhere new.slots.items all e.name → IsLedFirst new.slots.items e.name (length es) ⊎ (AreTaken new.slots.items e.name 4 × (other_at new e.name ≡ Some (length es))) → ⊥
+    not_nowhere is (inr full) = full.0 is.0 is.1 is.2
+    not_nowhere is (inl led) = by_order (three_ways is.0 led.0)
+      where
+        by_order : (is.0 < led.0) ⊎ ((led.0 < is.0) ⊎ (is.0 ≡ led.0)) → ⊥
+        by_order (inl before) = led.3 is.0 before is.2
+        by_order (inr (inl behind)) = is.3 led.0 behind (length es) led.2 (named-last es e)
+        by_order (inr (inr same)) = let there = led.2 in let free = ap (mark_behind new.slots.items e.name) (sym same) ∙ is.2 in let never : 0 ≡ suc (length es) = sym free ∙ there in cc
 
-    here : (IsLed new.slots.items (es ++ e ∷ []) e.name → ⊥) → (mark_at new.slots.items e.name ≡ suc (length es)) ⊎ (other_at new e.name ≡ Some (length es)) → IsFound (es ++ e ∷ []) e.name (other_at new e.name)
-    here not (inl led) = absurd (not (length es, led, named-last es e))
-    here not (inr is) = subst (IsFound (es ++ e ∷ []) e.name) (sym is) (finds-last es e e.name refl good)
+    apart : (n : Name) → IsNowhere new.slots.items all n → n ≢ e.name
+    apart n is same = not_nowhere (subst (IsNowhere new.slots.items all) same is) put.leads
 
-    by_name : (n : Name) → (IsLed new.slots.items (es ++ e ∷ []) n → ⊥) → (n ≡ e.name) ⊎ (n ≢ e.name) → IsFound (es ++ e ∷ []) n (other_at new n)
-    by_name n not (inl same) =
-        subst (λ (m : Name). IsFound (es ++ e ∷ []) m (other_at new m)) (sym same)
-        (here (subst (λ (m : Name). IsLed new.slots.items (es ++ e ∷ []) m → ⊥) same not) put.leads)
-    by_name n not (inr other) =
-        subst (IsFound (es ++ e ∷ []) n) (sym (put.others n other))
-        (finds-more es e n (other_at old n) other (placed.rest n (λ led. not (led-more n led))))
+    here : NoneLeads new.slots.items all e.name 4 → IsLedFirst new.slots.items e.name (length es) ⊎ (AreTaken new.slots.items e.name 4 × (other_at new e.name ≡ Some (length es))) → IsFound all e.name (other_at new e.name)
+    here none (inl led) = absurd (none led.0 led.1 (length es) led.2 (named-last es e))
+    here none (inr full) = subst (IsFound all e.name) (sym full.1) (finds-last es e e.name refl good)
+
+    by_name : (n : Name) → NoneLeads new.slots.items all n 4 → (n ≡ e.name) ⊎ (n ≢ e.name) → IsFound all n (other_at new n)
+    by_name n none (inl same) = subst (λ (m : Name). IsFound all m (other_at new m)) (sym same) (here (subst (λ (m : Name). NoneLeads new.slots.items all m 4) same none) put.leads)
+    by_name n none (inr other) =
+        subst (IsFound all n) (sym (put.others n other))
+        (finds-more es e n (other_at old n) other (placed.rest n (none-before old.slots.items new.slots.items es n 4 put.marks (none-fewer new.slots.items es e n 4 none))))
 
 -- one entry less, which the map forgot
 pub placed-pop : (old new : Places) (es : List Entry) (e : Entry) → IsPlaced old (es ++ e ∷ []) → new.slots.items ≡ old.slots.items
@@ -125,22 +181,24 @@ placed-pop old new es e placed same_slots forgot =
       good = good_front es e placed.good;
       new = new_front finite.empty es (e ∷ []) placed.new;
       free = λ n is. by_name n (body_of (bodies_in es) n ≡ None) (λ same. absent n same)
-          (λ other. sym (body-other es e n other) ∙ placed.free n (ap (λ (slots : List ℕ). mark_at slots n) (sym same_slots) ∙ is));
-      rest = λ n not. subst (IsFound es n) (sym (forgot n))
+          (λ other. sym (body-other es e n other) ∙ placed.free n (nowhere-more n other (subst (λ (slots : List ℕ). IsNowhere slots es n) same_slots is)));
+      rest = λ n none. subst (IsFound es n) (sym (forgot n))
           (elim (at (name_key e.name) (name_key n)) as (λ b. at (name_key e.name) (name_key n) ≡ b → IsFound es n (cond b None (other_at old n))) [
             | true ↦ λ t. absent n (sym (same_key e.name n t))
-            | false ↦ λ f. finds-fewer es e n (other_at old n) (apart-by_key n e.name f) (placed.rest n (λ led. not (led-fewer n (apart-by_key n e.name f) led)))
+            | false ↦ λ f.
+                finds-fewer es e n (other_at old n) (apart-by_key n e.name f)
+                (placed.rest n (none-more old.slots.items es e n 4 (apart-by_key n e.name f) (subst (λ (slots : List ℕ). NoneLeads slots es n 4) same_slots none)))
           ] refl);
     }
   where
     by_name : (n : Name) (P : Type 0) → (n ≡ e.name → P) → (n ≢ e.name → P) → P
-    by_name n P here there = elim (same_or_apart n e.name) as (λ _. P) [ | inl same ↦ here same | inr other ↦ there other ]
+    by_name n P here there = elim (same_or_apart n e.name) as (λ _. P) [ inl same ↦ here same | inr other ↦ there other ]
 
     absent : (n : Name) → n ≡ e.name → body_of (bodies_in es) n ≡ None
     absent n same = subst (λ (m : Name). body_of (bodies_in es) m ≡ None) (sym same) (new-last finite.empty es e placed.new)
 
-    led-fewer : (n : Name) → n ≢ e.name → IsLed old.slots.items (es ++ e ∷ []) n → IsLed new.slots.items es n
-    led-fewer n other led = (led.0, ap (λ (slots : List ℕ). mark_at slots n) same_slots ∙ led.1, named-fewer es e n led.0 other led.2)
+    nowhere-more : (n : Name) → n ≢ e.name → IsNowhere old.slots.items es n → IsNowhere old.slots.items (es ++ e ∷ []) n
+    nowhere-more n other is = (is.0, is.1, is.2, none-more old.slots.items es e n is.0 other is.3)
 
 -- ---- a key that is led somewhere
 
@@ -154,13 +212,6 @@ put-other key n m o p is apart =
       | true ↦ λ t. absurd (apart (sym (same_key n m t)))
       | false ↦ λ _. refl
     ] refl
-
--- a mark that does not lead to the name
-pub not_led : (slots : List ℕ) (es : List Entry) (n : Name) (mark : ℕ) → mark ≡ mark_at slots n → (IsNamed es n (mark - 1) → ⊥) → IsLed slots es n → ⊥
-not_led slots es n mark is not led =
-    let there = led.1 in
-    let same : led.0 ≡ mark - 1 = omega (arith, is, there) in
-    not (subst (IsNamed es n) same led.2)
 
 -- ---- entries that are taken up one after another
 

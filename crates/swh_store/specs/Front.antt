@@ -1,5 +1,5 @@
 -- The entries of a whole history in their order, of which a front is shown as a store.
-use Rattle.std.specs.Prelude.{◌≡◌, ◌<◌, ◌≤◌, ℕ, List, length, take, drop, refl}
+use Rattle.std.specs.Prelude.{◌<◌, ◌≤◌, ℕ, List, length, take, drop, refl}
 use Rattle.std.specs.Coded.{Coded, coded_list, code_by, coded×}
 use Rattle.std.specs.FinMap as finite
 use Rattle.swh_base.specs.contracts.entry.Entry as an_entry

@@ -1,12 +1,24 @@
 //! Where entries stand, by their names: of most names one slot tells at once whether and where.
-ghost use Rattle.std.specs.Prelude.{◌≡◌, ◌↔◌, ◌∷◌, ◌++◌, [], List, IsTrue, None, suc, take, IfOk, OnOk, OnErr};
+ghost use Rattle.std.specs.Prelude.{◌≡◌, ◌↔◌, ◌≤◌, ◌∷◌, ◌++◌, [], List, IsTrue, IsFalse, None, length, take, IfOk, OnOk, OnErr};
 ghost use Rattle.std.specs.List.{AllByRecursion};
 ghost use Rattle.swh_base.specs.declared.entry.Entry.{Entry};
 ghost use Rattle.swh_model.specs.Archive.{body_of};
 ghost use Rattle.swh_model.specs.Step.{HasItsChildren};
 ghost use Rattle.swh_store.specs.Entries.{bodies_in, IsFound, IsNamed};
 ghost use Rattle.swh_store.specs.Front.{AreFresh};
-ghost use Rattle.swh_store.specs.Places.{number_of, mark_at, MarksStay, IsPlaced, IsPut, StaysPut};
+ghost use Rattle.swh_store.specs.Places.{
+  number_of,
+  slot_of,
+  mark_at,
+  Tells,
+  TellAll,
+  MarksStay,
+  AreTaken,
+  IsLedFirst,
+  IsPlaced,
+  IsPut,
+  StaysPut,
+};
 
 use crate::key::{Key, key_of};
 use std::alloc::Global;
@@ -19,12 +31,16 @@ const FEW: usize = 128;
 /// How many slots there are for an entry, where they were just made.
 const SLOTS_AN_ENTRY: usize = 8;
 
+/// In how many slots, from that of its name on, an entry may stand.
+const TRIES: usize = 4;
+
 /// The first place that is too far for a slot.
 const FARTHEST: usize = 4_294_967_295;
 
-/// The places of entries of which no two have one name. A slot has one more than the place of the first entry that came to
-/// it, or zero where none did; that entry's name is looked at before the slot is believed. Entries that came to a slot later
-/// stand in the map: few, unless somebody chose their names, and then it costs what an ordered map does.
+/// The places of entries of which no two have one name. A slot has one more than a place, or zero where it is free. An entry
+/// stands in the first free one of the few slots from its name's on; whatever a slot has, the entry's name is looked at
+/// before it is believed. Entries that found none of these slots free stand in the map: hardly any, unless somebody chose
+/// their names, and then it costs what an ordered map does.
 #[derive(Drop)]
 pub struct Places {
     pub slots: Vec<u32>,
@@ -38,14 +54,25 @@ fn number_of(name: &Name) -> usize
     u32::from_be_bytes([name.id[0], name.id[1], name.id[2], name.id[3]]) as usize
 }
 
-/// What the slot of a name has. Where there are no slots it is as if each led to the first place.
-fn mark_at(slots: &[u32], name: &Name) -> u32
-    ensures { result ≡ mark_at slots.now name.now }
+/// The slot of a name. Where there are no slots it is one that is not there.
+fn slot_of(slots: &[u32], name: &Name) -> usize
+    ensures slot { result ≡ slot_of slots.now name.now }
+    ensures within { result ≤ length slots.now }
 {
-    let Some(slot) = number_of(name).checked_rem(slots.len()) else {
-        return 1;
-    };
-    slots[slot]
+    if slots.is_empty() {
+        return 0;
+    }
+    number_of(name) % slots.len()
+}
+
+/// What a slot has. One that is not there leads to the first place.
+fn mark_at(slots: &[u32], slot: usize) -> u32
+    ensures { result ≡ mark_at slots.now slot }
+{
+    match slots.get(slot) {
+        Some(mark) => *mark,
+        None => 1,
+    }
 }
 
 fn is_same(a: &Name, b: &Name) -> bool
@@ -64,24 +91,74 @@ fn is_named(entries: &[Entry], place: usize, name: &Name) -> bool
     }
 }
 
-/// Leads the slot of a name to a place, where it is free, and says whether it did. Where the place is too far for a slot, the
-/// slot is taken, and leads to the first place.
-fn take_slot(slots: &mut Vec<u32>, name: &Name, place: usize) -> bool
-    ensures stay { MarksStay slots.old.items slots.new.items }
-    ensures taken { mark_at slots.new.items name.now ≡ 0 → ⊥ }
-    ensures leads { IsTrue result → mark_at slots.new.items name.now ≡ suc place }
+/// What slots tell of a name.
+#[derive(Clone, Copy)]
+pub(crate) enum Told {
+    At { place: usize },
+    Nowhere,
+    Nothing,
+}
+
+/// What a slot tells of a name among the entries.
+fn tell(slots: &[u32], entries: &[Entry], slot: usize, name: &Name) -> Told
+    ensures { Tells slots.now entries.now slot name.now result }
 {
-    let Some(slot) = number_of(name).checked_rem(slots.len()) else {
-        return false;
-    };
-    if slots[slot] != 0 {
+    let mark = mark_at(slots, slot);
+    if mark == 0 {
+        return Told::Nowhere;
+    }
+    let place = mark as usize - 1;
+    if is_named(entries, place, name) {
+        return Told::At { place };
+    }
+    Told::Nothing
+}
+
+/// What the slots from a name's on tell of it, up to the first that tells something.
+fn tell_all(slots: &[u32], entries: &[Entry], name: &Name) -> Told
+    ensures { TellAll slots.now entries.now name.now result }
+{
+    let first = slot_of(slots, name);
+    for step in 0..TRIES {
+        match tell(slots, entries, first + step, name) {
+            Told::At { place } => return Told::At { place },
+            Told::Nowhere => return Told::Nowhere,
+            Told::Nothing => {}
+        }
+    }
+    Told::Nothing
+}
+
+/// Gives a slot a mark, where it is free, and says whether it was.
+fn take_slot(slots: &mut Vec<u32>, slot: usize, mark: u32) -> bool
+    requires { mark ≡ 0 → ⊥ }
+    ensures stay { MarksStay slots.old.items slots.new.items }
+    ensures taken { mark_at slots.new.items slot ≡ 0 → ⊥ }
+    ensures it { IsTrue result → mark_at slots.new.items slot ≡ mark }
+{
+    if slot >= slots.len() || slots[slot] != 0 {
         return false;
     }
-    if place < FARTHEST {
-        slots[slot] = place as u32 + 1;
-        return true;
+    slots[slot] = mark;
+    true
+}
+
+/// Leads the first free one of a name's slots to a place, and says whether it did. Where the place is too far for a slot, all
+/// of them are taken.
+fn take_one(slots: &mut Vec<u32>, name: &Name, place: usize) -> bool
+    ensures stay { MarksStay slots.old.items slots.new.items }
+    ensures led { IsTrue result → IsLedFirst slots.new.items name.now place }
+    ensures full { IsFalse result → AreTaken slots.new.items name.now 4 }
+{
+    let first = slot_of(slots.as_slice(), name);
+    let near = place < FARTHEST;
+    let mark = if near { place as u32 + 1 } else { 1 };
+    for step in 0..TRIES {
+        let took = take_slot(slots, first + step, mark);
+        if took && near {
+            return true;
+        }
     }
-    slots[slot] = 1;
     false
 }
 
@@ -113,15 +190,11 @@ impl Places {
         requires { IsPlaced self.now entries.now }
         ensures { IsFound entries.now name.now result }
     {
-        let mark = mark_at(self.slots.as_slice(), name);
-        if mark == 0 {
-            return None;
+        match tell_all(self.slots.as_slice(), entries, name) {
+            Told::At { place } => Some(place),
+            Told::Nowhere => None,
+            Told::Nothing => self.others.get(&key_of(name)).copied(),
         }
-        let place = mark as usize - 1;
-        if is_named(entries, place, name) {
-            return Some(place);
-        }
-        self.others.get(&key_of(name)).copied()
     }
 
     /// Leads a name to a place, by its slot where that is free.
@@ -129,7 +202,7 @@ impl Places {
         ensures ok { OnOk result (IsPut self.old self.new name.now place) }
         ensures err { OnErr result (StaysPut self.old self.new) }
     {
-        if take_slot(&mut self.slots, name, place) {
+        if take_one(&mut self.slots, name, place) {
             return Ok(());
         }
         self.others.insert(key_of(name), place)?;

@@ -2,7 +2,6 @@ use Rattle.std.proofs.Common.{◌≡◌, None, List, take, subst, sym}
 use Rattle.std.specs.FinMap as finite
 use Rattle.swh_base.specs.declared.entry.Entry.{Entry}
 use Rattle.swh_model.specs.Archive.{Bodies, body_of}
-use Rattle.swh_model.specs.Step.{AreNew}
 use Rattle.swh_model.proofs.Entries.{added-append, new-at}
 use Rattle.swh_store.specs.Entries.{bodies_in}
 use Rattle.swh_store.proofs.entries.Held.push_all.Goals as goal

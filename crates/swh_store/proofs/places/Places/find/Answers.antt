@@ -1,19 +1,18 @@
-use Rattle.std.proofs.Common.{rules, ◌≡◌, ◌-◌, ℕ, List, true, false, sym, ap, ◌∙◌, subst}
-use Rattle.swh_store.specs.Entries.{IsNamed, IsFound}
-use Rattle.swh_store.specs.Places.{mark_at, other_at}
+use Rattle.std.proofs.Common.{◌∙◌, List, ℕ, ap, sym, subst}
+use Rattle.std.specs.BTreeMap.{get}
+use Rattle.swh_store.specs.Entries.{keys_cmp, IsFound}
+use Rattle.swh_store.specs.Places.{IsNowhere, NoneLeads}
 use Rattle.swh_store.proofs.IndexLemmas.{stands}
-use Rattle.swh_store.proofs.PlaceLemmas.{not_led}
 use Rattle.swh_store.proofs.places.Places.find.Goals as goal
 
-pub returns-then-is_named : goal.returns-then-is_named
-returns-then-is_named c =
-    stands c.args.entries.now c.args.name.now (c.mark_at-mark.result - 1) c.requires.good c.requires.new (c.is_named.ensures.0 c.if-is_named.true)
+pub returns-in-At : goal.returns-in-At
+returns-in-At c = stands c.args.entries.now c.args.name.now c.in-At.place c.requires.good c.requires.new c.in-At.ensures
 
-pub returns : goal.returns
-returns c =
-    let mark_is = c.mark_at-mark.ensures ∙ ap (λ (slots : List ℕ). mark_at slots c.args.name.now) c.as_slice.ensures.value in
-    let found : c.copied.result ≡ other_at c.args.self.now c.args.name.now = search rules in
+pub returns-in-Nowhere : goal.returns-in-Nowhere
+returns-in-Nowhere c = c.requires.free c.args.name.now (subst (λ (slots : List ℕ). IsNowhere slots c.args.entries.now c.args.name.now) c.as_slice.ensures.value c.in-Nowhere.ensures)
+
+pub returns-in-Nothing : goal.returns-in-Nothing
+returns-in-Nothing c =
+    let found = c.copied.ensures ∙ c.get.ensures.value ∙ ap (get keys_cmp c.args.self.now.others) c.key_of.ensures in
     subst (IsFound c.args.entries.now c.args.name.now) (sym found)
-    (c.requires.rest c.args.name.now
-    (not_led c.args.self.now.slots.items c.args.entries.now c.args.name.now c.mark_at-mark.result mark_is
-    (λ named. let yes = c.is_named.ensures.1 named in let no = c.if-is_named.false in let both : false ≡ true = sym no ∙ yes in cc)))
+    (c.requires.rest c.args.name.now (subst (λ (slots : List ℕ). NoneLeads slots c.args.entries.now c.args.name.now 4) c.as_slice.ensures.value c.in-Nothing.ensures))

@@ -1,5 +1,4 @@
 use Rattle.std.proofs.Common.{inr, Some, ◌∙◌}
-use Rattle.std.specs.BTreeMap.{get}
 use Rattle.swh_base.specs.Name.{name_key}
 use Rattle.swh_store.specs.Places.{other_at}
 use Rattle.swh_store.proofs.PlaceLemmas.{put-here, put-other}
@@ -10,8 +9,7 @@ returns-clause-ok c =
     let n = c.args.name.now in
     let before = other_at c.args.self.now in
     record {
-      marks = c.take_slot.ensures.stay;
-      taken = c.take_slot.ensures.taken;
-      leads = inr (c.in_ok-insert.ensures.updates.0 (name_key n) ∙ put-here c.key_of.result n (Some c.args.place) (before n) c.key_of.ensures);
+      marks = c.take_one.ensures.stay;
+      leads = inr (c.take_one.ensures.full c.if-take_one.false, c.in_ok-insert.ensures.updates.0 (name_key n) ∙ put-here c.key_of.result n (Some c.args.place) (before n) c.key_of.ensures);
       others = λ m apart. c.in_ok-insert.ensures.updates.0 (name_key m) ∙ put-other c.key_of.result n m (Some c.args.place) (before m) c.key_of.ensures apart;
     }

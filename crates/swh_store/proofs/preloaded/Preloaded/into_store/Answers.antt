@@ -1,5 +1,4 @@
-use Rattle.std.proofs.Common.{List, sym, ap, ◌∙◌, subst}
-use Rattle.swh_base.specs.declared.entry.Entry.{Entry}
+use Rattle.std.proofs.Common.{sym, ap, ◌∙◌, subst}
 use Rattle.swh_store.specs.Entries.{stored_in}
 use Rattle.swh_store.specs.Front.{Front}
 use Rattle.swh_store.specs.Places.{IsPlaced}
