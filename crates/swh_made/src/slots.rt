@@ -5,7 +5,7 @@ ghost use Rattle.swh_made.specs.Seen.{slot_at, SlotsStay, TakesSlot};
 use swh_base::Memory;
 
 /// How many slots there are.
-const SLOTS: usize = 131_072;
+const SLOTS: usize = 262_144;
 
 /// The first place that is too far for a mark.
 const FARTHEST: usize = 4_294_967_295;
