@@ -278,18 +278,69 @@ fn joined(alloc: Global, left: Rc<Span>, right: Rc<Span>) -> Result<Rc<Span>, Al
     fork(alloc, left, right)
 }
 
-/// These entries, in two pieces where they are too many for one.
-fn pieces(alloc: Global, entries: Vec<Entry>) -> Result<Rc<Span>, AllocError>
-    ensures counted { IfOk result (λ s. IsCounted (rc_value s)) }
-    ensures items { IfOk result (λ s. items_of (rc_value s) ≡ entries.items) }
+/// These entries, with room for as many as a piece has at most.
+fn roomy(alloc: Global, entries: &[Entry]) -> Result<Vec<Entry>, AllocError>
+    ensures { IfOk result (λ v. v.items ≡ entries.now) }
 {
-    if entries.len() <= PIECE {
-        return piece(alloc, entries);
+    let mut roomy = Vec::with_capacity(alloc, PIECE)?;
+    roomy.extend_from_slice(entries)?;
+    Ok(roomy)
+}
+
+/// Both halves of these entries: the first where they all were, the second a copy.
+fn halves(alloc: Global, entries: Vec<Entry>) -> Result<(Vec<Entry>, Vec<Entry>), AllocError>
+    ensures { IfOk result (λ h. h.0.items ++ h.1.items ≡ entries.items) }
+{
+    let middle = entries.len() / 2;
+    let (_, after) = entries.as_slice().split_at(middle);
+    let second = roomy(alloc, after)?;
+    let mut first = entries;
+    first.truncate(middle);
+    Ok((first, second))
+}
+
+/// These entries and one more, at a place, in one piece.
+fn piece_of_more(
+    alloc: Global,
+    entries: Vec<Entry>,
+    place: usize,
+    entry: Entry,
+) -> Result<Rc<Span>, AllocError>
+    requires { place ≤ length entries.items }
+    ensures counted { IfOk result (λ s. IsCounted (rc_value s)) }
+    ensures items { IfOk result (λ s. items_of (rc_value s) ≡ insert entries.items place entry) }
+{
+    let mut more = entries;
+    more.insert(place, entry)?;
+    piece(alloc, more)
+}
+
+/// These entries and one more, at a place: in two pieces where they are too many for one. The piece is cut before the
+/// entry is put into one of its halves, so that it never grows over its room.
+fn piece_with(
+    alloc: Global,
+    entries: Vec<Entry>,
+    place: usize,
+    entry: Entry,
+) -> Result<Rc<Span>, AllocError>
+    requires within { place ≤ length entries.items }
+    ensures counted { IfOk result (λ s. IsCounted (rc_value s)) }
+    ensures items { IfOk result (λ s. items_of (rc_value s) ≡ insert entries.items place entry) }
+{
+    if entries.len() < PIECE {
+        return piece_of_more(alloc, entries, place, entry);
     }
-    let (first, second) = entries.as_slice().split_at(entries.len() / 2);
-    let left = piece(alloc, Vec::from_slice(alloc, first)?)?;
-    let right = piece(alloc, Vec::from_slice(alloc, second)?)?;
-    fork(alloc, left, right)
+    let (first, second) = halves(alloc, entries)?;
+    let before = first.len();
+    if place <= before {
+        let left = piece_of_more(alloc, first, place, entry)?;
+        let right = piece(alloc, second)?;
+        fork(alloc, left, right)
+    } else {
+        let left = piece(alloc, first)?;
+        let right = piece_of_more(alloc, second, place - before, entry)?;
+        fork(alloc, left, right)
+    }
 }
 
 /// The same entries, whose sides or whose piece others have too.
@@ -300,7 +351,7 @@ fn shared(alloc: Global, span: &Span) -> Result<Span, AllocError>
     ensures weight { IfOk result (λ s. weight s ≡ weight span.now) }
 {
     match span {
-        Span::Piece(entries) => Ok(Span::Piece(Vec::from_slice(alloc, entries.as_slice())?)),
+        Span::Piece(entries) => Ok(Span::Piece(roomy(alloc, entries.as_slice())?)),
         Span::Fork(left, right, len, depth, first) => {
             let (left, right) = (left.clone()?, right.clone()?);
             Ok(Span::Fork(left, right, *len, *depth, *first))
@@ -329,11 +380,7 @@ fn with(alloc: Global, span: Rc<Span>, place: usize, entry: Entry) -> Result<Rc<
     ensures items { IfOk result (λ s. items_of (rc_value s) ≡ insert (items_of (rc_value span)) place entry) }
 {
     match owned(alloc, span)? {
-        Span::Piece(entries) => {
-            let mut more = entries;
-            more.insert(place, entry)?;
-            pieces(alloc, more)
-        }
+        Span::Piece(entries) => piece_with(alloc, entries, place, entry),
         Span::Fork(left, right, _, _, _) => {
             let before = len_of(&left);
             if place <= before {
