@@ -1,82 +1,16 @@
--- Marks that are given one after another.
-use Rattle.std.proofs.Common.{◌≡◌, ◌⊎◌, inl, inr, zero, suc, ℕ, ◌+◌, ◌<◌, Bool, true, false, cond, Option, Some, None, List, [], ◌∷◌, ◌++◌, length, take, drop, get_or, refl, sym, ap, ◌∙◌, subst, arith, add-one, drop-cons}
+-- Marks, by the places of names among those that are written.
+use Rattle.std.proofs.Common.{◌≡◌, zero, suc, ℕ, ◌+◌, ◌<◌, Bool, true, false, cond, List, [], ◌∷◌, ◌++◌, length, take, get_or, refl, sym, ap, ◌∙◌, subst, arith}
 use Rattle.std.specs.Prelude.{Contains}
-use Rattle.std.specs.Map.{lookup}
 use Rattle.std.specs.BTreeMap.{is_at}
 use Rattle.std.specs.Ordering.{is_eq}
-use Rattle.std.specs.declared.cmp.Ordering.{Ordering}
 use Rattle.std.specs.Cmp.{Equal-is, tied_itself}
-use Rattle.std.proofs.lemmas.List.{take-append-drop, take_more}
-use Rattle.std.proofs.lemmas.List.Elements.{Contains-append_cases}
-use Rattle.std.proofs.lemmas.List.Filters.{length-filter_more}
+use Rattle.std.proofs.lemmas.List.{take_more}
+use Rattle.std.proofs.lemmas.List.Elements.{Contains-append_right}
 use Rattle.swh_base.specs.declared.name.Name.{Name}
 use Rattle.swh_base.specs.Name.{name_cmp, name_cmp_total, name_cmp-IsAntisymmetric}
-use Rattle.swh_base.specs.contracts.name.NameOrd.TheImpl.{cmp-value}
-use Rattle.swh_closure.proofs.Order.{order_is}
-use Rattle.swh_postorder.proofs.Trips.{only, first_in, later_in}
-use Rattle.swh_fastcook.specs.Marks.{is_written, written, HasMark, IsMarkOf, HaveMarks, mark_step, mark_of, StandOnce}
-
-pub count_more : (order : List Name) (i : ℕ) (none : Name) (count : ℕ) → i < length order → count ≡ length (written (take i order)) → is_written (get_or order i none) ≡ true → count + 1 ≡ length (written (take (i + 1) order))
-count_more order i none count within is w =
-    let one = length-filter_more is_written order i none within in
-    let c : cond {A = ℕ} (is_written (get_or order i none)) 1 0 ≡ 1 = ap (λ (b : Bool). cond {A = ℕ} b 1 0) w in
-    omega (arith, one, c, is)
-
-pub count_same : (order : List Name) (i : ℕ) (none : Name) (count : ℕ) → i < length order → count ≡ length (written (take i order)) → is_written (get_or order i none) ≡ false → count ≡ length (written (take (i + 1) order))
-count_same order i none count within is w =
-    let one = length-filter_more is_written order i none within in
-    let c : cond {A = ℕ} (is_written (get_or order i none)) 1 0 ≡ 0 = ap (λ (b : Bool). cond {A = ℕ} b 1 0) w in
-    omega (arith, one, c, is)
-
-mark_later : (order front more : List Name) (q : Name) (found : Option ℕ) → (Contains more q → is_written q ≡ true → Contains front q) → IsMarkOf order front q found → IsMarkOf order more q found
-mark_later order front more q None back is = λ there w. is (back there w) w
-mark_later order front more q (Some mark) back is = is
-
-not_both : (b : Bool) → b ≡ true → b ≡ false → ⊥
-not_both b t f = let e : true ≡ false = sym t ∙ f in cc
-
-module _ (order : List Name) (i : ℕ) (none : Name) (within : i < length order) where
-  abbrev name : Name
-  name = get_or order i none
-
-  cut_here : order ≡ take i order ++ name ∷ drop (i + 1) order
-  cut_here =
-      let one : drop i order ≡ get_or order i none ∷ drop (i + 1) order = rw (add-one, drop-cons order i none) in
-      sym (take-append-drop i order) ∙ ap (λ (l : List Name). take i order ++ l) one
-
-  in_more : (q : Name) → Contains (take (i + 1) order) q → Contains (take i order) q ⊎ (name ≡ q)
-  in_more q there =
-      elim (Contains-append_cases (take i order) (get_or order i none ∷ []) q (subst (λ (l : List Name). Contains l q) (take_more order i none within) there)) [
-        | inl was ↦ inl was
-        | inr is ↦ inr (only (get_or order i none) q is)
-      ]
-
-  module _ (old new : List (Name × ℕ)) (have : HaveMarks order (take i order) old) where
-    pub have_same : is_written name ≡ false → HaveMarks order (take (i + 1) order) old
-    have_same w q =
-        mark_later order (take i order) (take (i + 1) order) q (lookup (is_at (name_cmp q)) old)
-        (λ there is. elim (in_more q there) [ inl was ↦ was | inr same ↦ absurd (not_both (is_written q) is (ap is_written (sym same) ∙ w)) ])
-        (have q)
-
-    module _ (mark : ℕ) (counted : mark ≡ length (written (take i order)) + 1) (updates : (q : Name) → lookup (is_at (cmp-value.it q)) new ≡ cond (is_at (cmp-value.it name) q) (Some mark) (lookup (is_at (cmp-value.it q)) old)) where
-      by_name : (q : Name) → lookup (is_at (name_cmp q)) new ≡ cond (is_at (name_cmp name) q) (Some mark) (lookup (is_at (name_cmp q)) old)
-      by_name = subst (λ (R : Name → Name → Ordering). (q : Name) → lookup (is_at (R q)) new ≡ cond (is_at (R name) q) (Some mark) (lookup (is_at (R q)) old)) order_is updates
-
-      has_mark : HasMark order name mark
-      has_mark = record { before = take i order; behind = drop (i + 1) order; cut = cut_here; number = counted }
-
-      mark_by : (q : Name) (b : Bool) → is_at (name_cmp name) q ≡ b → IsMarkOf order (take (i + 1) order) q (cond b (Some mark) (lookup (is_at (name_cmp q)) old))
-      mark_by q true e = subst (λ (n : Name). HasMark order n mark) (name_cmp-IsAntisymmetric name q ((Equal-is (name_cmp name q)).0 e)) has_mark
-      mark_by q false e =
-          mark_later order (take i order) (take (i + 1) order) q (lookup (is_at (name_cmp q)) old)
-          (λ there is. elim (in_more q there) [
-            | inl was ↦ was
-            | inr same ↦ absurd (not_both (is_at (name_cmp name) q) (ap (λ (n : Name). is_eq (name_cmp name n)) (sym same) ∙ ap is_eq (tied_itself name_cmp_total name)) e)
-          ])
-          (have q)
-
-      pub have_more : HaveMarks order (take (i + 1) order) new
-      have_more q = subst (IsMarkOf order (take (i + 1) order) q) (sym (by_name q)) (mark_by q (is_at (name_cmp name) q) refl)
+use Rattle.swh_postorder.proofs.Preceded.{cut_at}
+use Rattle.swh_postorder.proofs.Trips.{first_in, later_in}
+use Rattle.swh_fastcook.specs.Marks.{is_written, written, HasMark, mark_step, mark_of, StandOnce}
 
 -- ---- names that are written, by their places
 
@@ -142,7 +76,10 @@ pub place_of : (order names : List Name) (p : ℕ) (name d : Name) → StandOnce
 place_of order names p name d once are less is =
     mark_is order name (p + 1) once (place_mark order p name d (subst (λ (l : List Name). p < length l) are less) (is ∙ ap (λ (l : List Name). get_or l p d) are))
 
-module _ (order : List Name) (entries : List (Name × ℕ)) (have : HaveMarks order order entries) (q : Name) (found : Option ℕ) (is : found ≡ lookup (is_at (cmp-value.it q)) entries) where
-  pub mark_found : IsMarkOf order order q found
-  mark_found =
-      subst (IsMarkOf order order q) (sym (is ∙ ap (λ (R : Name → Name → Ordering). lookup (is_at (R q)) entries) order_is)) (have q)
+-- a name of the order that is written stands among those that are
+pub written_there : (order : List Name) (name : Name) → Contains order name → is_written name ≡ true → Contains (written order) name
+written_there order name there w =
+    let c = cut_at order name there in
+    let is : written order ≡ written c.before ++ name ∷ written c.behind =
+    ap written c.cut ∙ written_both c.before (name ∷ c.behind) ∙ ap (λ (b : Bool). written c.before ++ cond b (name ∷ written c.behind) (written c.behind)) w in
+    subst (λ (l : List Name). Contains l name) (sym is) (Contains-append_right (written c.before) (name ∷ written c.behind) name (first_in name (written c.behind)))

@@ -1,6 +1,5 @@
 -- The marks of objects (git-fast-import(1), mark): those that are written, in their order, from 1.
-use Rattle.std.specs.Prelude.{◌≡◌, ℕ, ◌+◌, Bool, true, false, if◌then◌else◌, Option, Some, None, List, [], ◌∷◌, ◌++◌, length, filter, Contains}
-use Rattle.std.specs.Map.{lookup}
+use Rattle.std.specs.Prelude.{◌≡◌, ℕ, ◌+◌, Bool, true, false, if◌then◌else◌, List, [], ◌∷◌, ◌++◌, length, filter}
 use Rattle.std.specs.BTreeMap.{is_at}
 use Rattle.swh_base.specs.declared.kind.Kind.{Kind}
 use Rattle.swh_base.specs.declared.kind.Kind.TheVariants.{Content, Directory, Revision, Release, Snapshot}
@@ -30,15 +29,6 @@ pub record HasMark (order : List Name) (name : Name) (mark : ℕ) : Type 0 where
   pub behind : List Name
   pub cut : order ≡ before ++ name ∷ behind
   pub number : mark ≡ length (written before) + 1
-
--- a mark that was found, or none because the name is not written among the first of them
-abbrev pub IsMarkOf : List Name → List Name → Name → Option ℕ → Type 0
-IsMarkOf order front name (Some mark) = HasMark order name mark
-IsMarkOf order front name None = Contains front name → is_written name ≡ true → ⊥
-
--- The entries have the mark of each name that is written among the first of them.
-abbrev pub HaveMarks : List Name → List Name → List (Name × ℕ) → Type 0
-HaveMarks order front entries = (name : Name) → IsMarkOf order front name (lookup (is_at (name_cmp name)) entries)
 
 -- one for a name that is written, and nothing for another
 abbrev pub mark_step : Bool → ℕ

@@ -1,6 +1,6 @@
 //! The marks of objects.
-ghost use Rattle.std.specs.Prelude.{◌≡◌, ◌++◌, ◌∷◌, [], IfOk, OnOk};
-ghost use Rattle.swh_fastcook.specs.Marks.{is_written, written, HaveMarks};
+ghost use Rattle.std.specs.Prelude.{◌≡◌, ◌↔◌, ◌++◌, ◌∷◌, ◌<◌, [], IsTrue, IfOk, IfSome, IfNone, OnOk, Contains, length, get_or};
+ghost use Rattle.swh_fastcook.specs.Marks.{is_written, written};
 
 use std::alloc::Global;
 use std::collections::BTreeMap;
@@ -16,21 +16,6 @@ fn is_written(name: &Name) -> bool
         Kind::Content | Kind::Revision | Kind::Release => true,
         Kind::Directory | Kind::Snapshot => false,
     }
-}
-
-/// The marks of the names that are written, in this order.
-fn number(alloc: Global, order: &[Name]) -> Result<BTreeMap<Name, u64>, Memory>
-    ensures { IfOk result (λ marks. HaveMarks order.now order.now marks.entries) }
-{
-    let mut marks = BTreeMap::new(alloc);
-    let mut count: u64 = 0;
-    for name in order {
-        if is_written(name) {
-            count += 1;
-            marks.insert(*name, count)?;
-        }
-    }
-    Ok(marks)
 }
 
 /// Adds a name, where it is written.
@@ -64,27 +49,97 @@ fn places_of(alloc: Global, names: &[Name]) -> Places {
     places
 }
 
-/// Names in an order, each once, with a mark for each that is written, seen as the order. Mostly a mark is found by the place
-/// of the name among those that are written; where strangers have chosen ids that begin alike, the map has it.
+/// The places of those of these names that are not found by the first places.
+fn places_of_others(
+    alloc: Global,
+    places: &Places,
+    names: &[Name],
+) -> Result<BTreeMap<Name, usize>, Memory> {
+    let mut others = BTreeMap::new(alloc);
+    for (place, name) in names.iter().enumerate() {
+        if !places.lead(names, name) {
+            others.insert(*name, place)?;
+        }
+    }
+    Ok(others)
+}
+
+fn is_same(a: &Name, b: &Name) -> bool
+    ensures { IsTrue result ↔ (a.now ≡ b.now) }
+{
+    a == b
+}
+
+/// The place of a name among these, where these places tell of it. What they tell is looked at before it is believed.
+fn place_by(places: &BTreeMap<Name, usize>, names: &[Name], name: &Name) -> Option<usize>
+    ensures { IfSome result (λ place. (place < length names.now) × (name.now ≡ get_or names.now place name.now)) }
+{
+    let Some(place) = places.get(name) else {
+        return None;
+    };
+    let place = *place;
+    match names.get(place) {
+        Some(found) if is_same(found, name) => Some(place),
+        _ => None,
+    }
+}
+
+/// The first place of a name among these.
+fn first_place(names: &[Name], name: &Name) -> Option<usize>
+    ensures some { IfSome result (λ place. (place < length names.now) × (name.now ≡ get_or names.now place name.now)) }
+    ensures none { IfNone result (Contains names.now name.now → ⊥) }
+{
+    for (place, found) in names.iter().enumerate() {
+        if is_same(found, name) {
+            return Some(place);
+        }
+    }
+    None
+}
+
+/// The place of a name among these. It is mostly found by the first places, and else by the others.
+fn place_among(
+    places: &Places,
+    others: &BTreeMap<Name, usize>,
+    names: &[Name],
+    name: &Name,
+) -> usize
+    requires { Contains names.now name.now }
+    ensures less { result < length names.now }
+    ensures there { name.now ≡ get_or names.now result name.now }
+{
+    if let Some(place) = places.find(names, name) {
+        return place;
+    }
+    if let Some(place) = place_by(others, names, name) {
+        return place;
+    }
+    match first_place(names, name) {
+        Some(place) => place,
+        None => unreachable!(),
+    }
+}
+
+/// Names in an order, each once, seen as the order. The mark of a name is one more than its place among those that are written.
+/// Mostly that is found by the first places; where strangers have chosen ids that begin alike, the others have it.
 #[derive(Drop)]
 pub struct Marks {
     order: Vec<Name>,
     marked: Vec<Name>,
     places: Places,
-    marks: BTreeMap<Name, u64>,
+    others: BTreeMap<Name, usize>,
 }
 
 impl Model for Marks {
     ghost use Rattle.std.specs.Prelude.{◌≡◌, List};
     ghost use Rattle.swh_base.specs.declared.name.Name.{Name};
-    ghost use Rattle.swh_fastcook.specs.Marks.{written, HaveMarks, StandOnce};
+    ghost use Rattle.swh_fastcook.specs.Marks.{written, StandOnce};
 
     ghost Value = { List Name };
 
     ghost view = { λ m. m.order.items };
 
-    ghost invariant = { λ m. HaveMarks m.order.items m.order.items m.marks.entries × StandOnce m.order.items
-        × (m.marked.items ≡ written m.order.items) };
+    ghost invariant = { λ m. StandOnce m.order.items × (m.marked.items ≡ written m.order.items) };
 }
 
 impl Marks {
@@ -96,14 +151,14 @@ impl Marks {
         requires { StandOnce order.items }
         ensures { IfOk result (λ marks. marks ≡ order.items) }
     {
-        let marks = number(alloc, order.as_slice())?;
         let marked = written_of(alloc, order.as_slice())?;
         let places = places_of(alloc, marked.as_slice());
+        let others = places_of_others(alloc, &places, marked.as_slice())?;
         Ok(Marks {
             order,
             marked,
             places,
-            marks,
+            others,
         })
     }
 
@@ -120,12 +175,7 @@ impl Marks {
         requires written { is_written name.now ≡ true }
         ensures { result ≡ mark_of self.now name.now }
     {
-        if let Some(place) = self.places.find(self.marked.as_slice(), name) {
-            return place as u64 + 1;
-        }
-        match self.marks.get(name) {
-            Some(mark) => *mark,
-            None => unreachable!(),
-        }
+        let marked = self.marked.as_slice();
+        place_among(&self.places, &self.others, marked, name) as u64 + 1
     }
 }

@@ -1,5 +1,5 @@
 //! Lines that several commands have, and data.
-ghost use Rattle.std.specs.Prelude.{◌≡◌, ◌++◌, ◌∷◌, [], OnOk, decimal};
+ghost use Rattle.std.specs.Prelude.{◌≡◌, ◌++◌, ◌∷◌, [], OnOk, codes, decimal};
 ghost use Rattle.swh_fasttext.specs.Quoted.{quoted_path};
 ghost use Rattle.swh_fasttext.specs.Text.{
   mark_line,
@@ -74,13 +74,26 @@ fn push_path_line(out: &mut Vec<u8>, path: &[u8]) -> Result<(), Memory>
     Ok(())
 }
 
+/// What the line of a file begins with, up to its mark: of most files, which are plain, it is put at once.
+#[tactic(auto, using(crate::proofs::Modes::plain_mode))]
+fn push_mode(out: &mut Vec<u8>, mode: u32) -> Result<(), Memory>
+    ensures { OnOk result (out.new.items ≡ out.old.items ++ (codes "M " ++ (decimal mode ++ codes " :"))) }
+{
+    if mode == 100_644 {
+        out.extend_from_slice(b"M 100644 :")?;
+        return Ok(());
+    }
+    out.extend_from_slice(b"M ")?;
+    push_number(out, mode as u64)?;
+    out.extend_from_slice(b" :")?;
+    Ok(())
+}
+
 /// The line of a file, by its mode's digits as a number and the mark of its content.
 pub fn push_file(out: &mut Vec<u8>, mode: u32, mark: u64, path: &[u8]) -> Result<(), Memory>
     ensures { OnOk result (out.new.items ≡ out.old.items ++ file_line mode mark path.now) }
 {
-    out.extend_from_slice(b"M ")?;
-    push_number(out, mode as u64)?;
-    out.extend_from_slice(b" :")?;
+    push_mode(out, mode)?;
     push_number(out, mark)?;
     push_path_line(out, path)
 }
