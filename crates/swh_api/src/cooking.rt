@@ -17,7 +17,7 @@ use std::alloc::Global;
 use swh_answer::{core_of, not_held, refusal, uncarried};
 use swh_base::{Kind, Memory, Name, Reply, Shared};
 use swh_carried::{CookFault, why_word};
-use swh_fastcook::{make_ready, write_ready};
+use swh_fastcook::{make_ready, write_stream};
 use swh_model::Look;
 use swh_reachedbytes::know_reached;
 
@@ -45,7 +45,7 @@ fn cooked_text<L: Look>(alloc: Global, look: &L, name: Name) -> Result<Vec<u8>, 
     };
     know_reached(look, &name, ready.marks.order());
     let mut collected = Collected::new(alloc);
-    match write_ready(alloc, look, &ready, name, &mut collected) {
+    match write_stream(alloc, look, &ready.marks, name, &mut collected) {
         Ok(()) => Ok(collected.into_bytes()),
         Err(_) => Err(CookFault::Memory),
     }
