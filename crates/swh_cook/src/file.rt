@@ -10,7 +10,7 @@ ghost use Rattle.swh_cook.specs.Cook.{IsCooked, ExplainsUncooked};
 use std::alloc::Global;
 use swh_base::{Bytes, Name};
 use swh_carried::CookFault;
-use swh_fastcook::{make_ready, write_ready};
+use swh_fastcook::{make_ready, write_stream};
 use swh_model::Look;
 use swh_outside::{OutFault, Yard};
 use swh_reachedbytes::know_reached;
@@ -84,7 +84,7 @@ pub fn cook_stream<L: Look, Y: Yard>(
     if let Err(fault) = begin_file(yard, out) {
         return Err(fault);
     }
-    match write_ready(alloc, look, &ready, name, yard) {
+    match write_stream(alloc, look, &ready.marks, name, yard) {
         Ok(()) => Ok(ready.head),
         Err(fault) => Err(fault),
     }

@@ -2,7 +2,6 @@ pub mod Cause
 pub mod Cook
 pub mod Ends
 pub mod Files
-pub mod Keeping
 pub mod Length
 pub mod Loaded
 pub mod Marks

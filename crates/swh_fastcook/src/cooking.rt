@@ -5,7 +5,7 @@ ghost use Rattle.swh_carried.specs.Cause.{HasCookCause};
 ghost use Rattle.swh_fastcook.specs.Cook.{IsCooked, ExplainsNoText};
 
 use crate::ready::make_ready;
-use crate::writing::write_ready;
+use crate::stream::write_stream;
 use std::alloc::Global;
 use swh_base::{Bytes, Kind, Name};
 use swh_carried::CookFault;
@@ -59,7 +59,7 @@ fn cook_stream<L: Look, K: Sink>(
         Ok(ready) => ready,
         Err(fault) => return Err(fault),
     };
-    match write_ready(alloc, look, &ready, name, sink) {
+    match write_stream(alloc, look, &ready.marks, name, sink) {
         Ok(()) => Ok(ready.head),
         Err(fault) => Err(fault),
     }

@@ -1,46 +1,20 @@
 //! How long a stream is.
-ghost use Rattle.std.specs.Prelude.{◌≡◌, ◌↔◌, [], IsTrue, IfOk, OnOk, Contains};
+ghost use Rattle.std.specs.Prelude.{◌↔◌, IsTrue, IfOk, Contains};
 ghost use Rattle.swh_base.specs.declared.name.Name.{Name as Named};
 ghost use Rattle.swh_postorder.specs.Cycle.{ArePreceded};
 ghost use Rattle.swh_postorder.specs.Postorder.{IsPostorder};
 ghost use Rattle.swh_fastcarried.specs.Rules.{IsOddObject};
 ghost use Rattle.swh_fastcook.specs.Length.{IsLongStream, HasText};
-ghost use Rattle.swh_fastcook.specs.Stream.{IsStreamText};
 
-use crate::keeping::Keeping;
 use crate::marks::Marks;
 use crate::stream::write_stream;
 use std::alloc::Global;
 use swh_base::{Memory, Name};
 use swh_model::Look;
+use swh_written::Counter;
 
 /// The bytes that a stream may have.
 const STREAM_LIMIT: u64 = 1 << 32;
-
-/// Whether the stream of the names that are reached from the root, which stand in this order, is too long. It is counted, and
-/// kept where it is short.
-pub fn measure_stream<L: Look>(
-    alloc: Global,
-    look: &L,
-    marks: &Marks,
-    root: Name,
-    keeping: &mut Keeping,
-) -> Result<bool, Memory>
-    requires order { IsPostorder (L.children_of look.now) root marks.now }
-    requires preceded { ArePreceded (L.children_of look.now) marks.now }
-    requires plain { (n : Named) → Contains marks.now n → IsOddObject (L.archive look.now).bodies n → ⊥ }
-    requires count { keeping.old.count ≡ 0 }
-    requires nothing { keeping.old.text.items ≡ [] }
-    ensures long { IfOk result (λ long. IsTrue long ↔ IsLongStream (L.archive look.now).bodies marks.now root) }
-    ensures text { IfOk result (λ _. HasText (L.archive look.now).bodies marks.now root) }
-    ensures kept { OnOk result (IsTrue keeping.new.whole
-        → IsStreamText (L.archive look.now).bodies marks.now root keeping.new.text.items) }
-{
-    match write_stream(alloc, look, marks, root, keeping) {
-        Ok(()) => Ok(keeping.count > STREAM_LIMIT),
-        Err(_) => Err(Memory),
-    }
-}
 
 /// Whether the stream of the names that are reached from the root, which stand in this order, is too long. It is counted, and
 /// nothing of it is held.
@@ -56,6 +30,9 @@ pub fn is_long_stream<L: Look>(
     ensures long { IfOk result (λ long. IsTrue long ↔ IsLongStream (L.archive look.now).bodies marks.now root) }
     ensures text { IfOk result (λ _. HasText (L.archive look.now).bodies marks.now root) }
 {
-    let mut keeping = Keeping::new(alloc, 0);
-    measure_stream(alloc, look, marks, root, &mut keeping)
+    let mut counter = Counter { count: 0 };
+    match write_stream(alloc, look, marks, root, &mut counter) {
+        Ok(()) => Ok(counter.count > STREAM_LIMIT),
+        Err(_) => Err(Memory),
+    }
 }

@@ -1,5 +1,5 @@
 //! All that is to be known of a stream before its first byte is written.
-ghost use Rattle.std.specs.Prelude.{◌≡◌, ◌≢◌, [], IsTrue, IfOk, IfErr, IfSome, IfNone};
+ghost use Rattle.std.specs.Prelude.{◌≢◌, IfOk, IfErr, IfNone};
 ghost use Rattle.swh_base.specs.declared.kind.Kind.TheVariants.{Content as ContentKind};
 ghost use Rattle.swh_postorder.specs.Cycle.{ArePreceded};
 ghost use Rattle.swh_postorder.specs.Postorder.{IsPostorder};
@@ -8,11 +8,9 @@ ghost use Rattle.swh_fastcarried.specs.First.{IsFirstFound};
 ghost use Rattle.swh_fastcook.specs.Cook.{BreaksStream};
 ghost use Rattle.swh_fastcook.specs.Length.{HasText};
 ghost use Rattle.swh_fastcook.specs.Ready.{IsReady, ExplainsNotReady};
-ghost use Rattle.swh_fastcook.specs.Stream.{IsStreamText};
 
 use crate::heads::head_of;
-use crate::keeping::Keeping;
-use crate::length::measure_stream;
+use crate::length::is_long_stream;
 use crate::loaded::loads_many;
 use crate::marks::Marks;
 use std::alloc::Global;
@@ -21,43 +19,32 @@ use swh_carried::{CookFault, Why, acyclic_order};
 use swh_fastcarried::first_uncarried;
 use swh_model::Look;
 
-/// How many bytes of a stream are kept for each name that is reached, at most: as many as a history of small files has. So what
-/// is held beside an archive stays within what its names take.
-const KEPT_BYTES: usize = 100;
-
-/// The names that are reached from a root, with their marks; the head of what is cooked; and its text, where that is short.
+/// The names that are reached from a root, with their marks, and the head of what is cooked.
 #[derive(Drop)]
 pub struct Ready {
     pub marks: Marks,
     pub head: Option<Bytes>,
-    pub text: Option<Bytes>,
 }
 
-/// The first of the names, which are reached from the root and stand in this order, that a stream cannot carry, and why. Where
-/// there is none the stream is kept, if it is short.
+/// The first of the names, which are reached from the root and stand in this order, that a stream cannot carry, and why.
 fn find_uncarried<L: Look>(
     alloc: Global,
     look: &L,
     marks: &Marks,
     root: Name,
-    keeping: &mut Keeping,
 ) -> Result<Option<(Name, Why)>, Memory>
     requires order { IsPostorder (L.children_of look.now) root marks.now }
     requires preceded { ArePreceded (L.children_of look.now) marks.now }
     requires kind { root.kind ≢ ContentKind }
-    requires count { keeping.old.count ≡ 0 }
-    requires nothing { keeping.old.text.items ≡ [] }
     ensures found { IfOk result (IsFirstFound (BreaksStream (L.archive look.now).bodies root marks.now) marks.now) }
     ensures text { IfOk result (λ found. IfNone found (HasText (L.archive look.now).bodies marks.now root)) }
-    ensures kept { IfOk result (λ found. IfNone found (IsTrue keeping.new.whole
-        → IsStreamText (L.archive look.now).bodies marks.now root keeping.new.text.items)) }
 {
     look.is_graph();
     let many = loads_many(alloc, look, marks.order(), root)?;
     if let Some(found) = first_uncarried(alloc, look, marks.order(), root, many)? {
         return Ok(Some(found));
     }
-    if measure_stream(alloc, look, marks, root, keeping)? {
+    if is_long_stream(alloc, look, marks, root)? {
         return Ok(Some((root, Why::Length)));
     }
     Ok(None)
@@ -76,35 +63,21 @@ fn marks_of<L: Look>(alloc: Global, look: &L, root: Name) -> Result<Marks, CookF
     Ok(Marks::new(alloc, order)?)
 }
 
-/// The text, where it is whole.
-fn text_of(keeping: Keeping) -> Option<Bytes>
-    ensures { IfSome result (λ text. IsTrue keeping.whole × (text ≡ keeping.text.items)) }
-{
-    if keeping.whole {
-        return Some(Bytes::from_vec(keeping.text));
-    }
-    None
-}
-
 /// All that is to be known of a stream before its first byte is written; or why it is not.
 pub fn make_ready<L: Look>(alloc: Global, look: &L, root: Name) -> Result<Ready, CookFault>
     requires { root.kind ≢ ContentKind }
     ensures ok { IfOk result (λ r. IsReady (L.archive look.now).bodies (L.children_of look.now) root r.marks r.head) }
-    ensures text { IfOk result (λ r. IfSome r.text (IsStreamText (L.archive look.now).bodies r.marks root)) }
     ensures err { IfErr result (ExplainsNotReady (L.archive look.now).bodies (L.children_of look.now) root) }
 {
     let marks = match marks_of(alloc, look, root) {
         Ok(marks) => marks,
         Err(fault) => return Err(fault),
     };
-    let limit = marks.order().len().saturating_mul(KEPT_BYTES);
-    let mut keeping = Keeping::new(alloc, limit);
-    match find_uncarried(alloc, look, &marks, root, &mut keeping)? {
+    match find_uncarried(alloc, look, &marks, root)? {
         Some((name, why)) => Err(CookFault::Uncarried { name, why }),
         None => {
             let head = head_of(alloc, look, root)?;
-            let text = text_of(keeping);
-            Ok(Ready { marks, head, text })
+            Ok(Ready { marks, head })
         }
     }
 }

@@ -21,22 +21,22 @@ returns-in-Err-begin_file-clause-err g c =
       made = λ told. makes_none bodies children c.args.name other c.args.out.now t.text is _ _ _ _ (refused.refused told) (refused.same_taken told);
     })
 
-pub write_ready-requires-clause-preceded : goal.write_ready-requires-clause-preceded
-write_ready-requires-clause-preceded g c =
+pub write_stream-requires-clause-preceded : goal.write_stream-requires-clause-preceded
+write_stream-requires-clause-preceded g c =
     let ready = c.in-Ok.ensures.ok in
     all_preceded (g.L.Graph.children_of c.args.look.now) c.args.name c.in-Ok.ready.marks ready.is_order ready.carried.acyclic
 
-pub write_ready-requires-clause-plain : goal.write_ready-requires-clause-plain
-write_ready-requires-clause-plain g c =
+pub write_stream-requires-clause-plain : goal.write_stream-requires-clause-plain
+write_stream-requires-clause-plain g c =
     let ready = c.in-Ok.ensures.ok in
     carried_plain (g.L.Look.archive c.args.look.now).bodies c.args.name c.in-Ok.ready.marks ready.carried.none
 
-pub returns-in-Ok-write_ready-clause-ok : goal.returns-in-Ok-write_ready-clause-ok
-returns-in-Ok-write_ready-clause-ok g c =
+pub returns-in-Ok-write_stream-clause-ok : goal.returns-in-Ok-write_stream-clause-ok
+returns-in-Ok-write_stream-clause-ok g c =
     let bodies = (g.L.Look.archive c.args.look.now).bodies in
     let children = g.L.Graph.children_of c.args.look.now in
     let other = c.requires.directory in
-    let wrote = c.in-Ok-write_ready.ensures.ok in
+    let wrote = c.in-Ok-write_stream.ensures.ok in
     let carried = ready_carried bodies children c.args.name c.requires.content c.in-Ok.ready.marks c.in-Ok.ready.head c.in-Ok.ensures.ok in
     let is = stream_text bodies children c.args.name c.requires.content c.in-Ok.ready.marks c.in-Ok.ready.head c.in-Ok.ensures.ok wrote.0 wrote.1 in
     let begun = c.in_default.ensures in
@@ -48,8 +48,8 @@ returns-in-Ok-write_ready-clause-ok g c =
           (wrote.2.begun_same ∙ begun.begun told) (wrote.2.bytes told ∙ ap (λ (l : List ℕ). l ++ wrote.0) (begun.same_taken told));
     }
 
-pub returns-in-Err-write_ready-clause-err : goal.returns-in-Err-write_ready-clause-err
-returns-in-Err-write_ready-clause-err g c =
+pub returns-in-Err-write_stream-clause-err : goal.returns-in-Err-write_stream-clause-err
+returns-in-Err-write_stream-clause-err g c =
     let bodies = (g.L.Look.archive c.args.look.now).bodies in
     let children = g.L.Graph.children_of c.args.look.now in
     let other = c.requires.directory in
@@ -58,12 +58,12 @@ returns-in-Err-write_ready-clause-err g c =
     let carried = ready_carried bodies children c.args.name c.requires.content c.in-Ok.ready.marks c.in-Ok.ready.head ready in
     let is = stream_text bodies children c.args.name c.requires.content c.in-Ok.ready.marks c.in-Ok.ready.head ready t.text t.is in
     let begun = c.in_default.ensures in
-    let failed = c.in-Err-write_ready.ensures in
+    let failed = c.in-Err-write_stream.ensures in
     let some = failed.err t.text t.is in
-    breaks_off bodies children c.args.name other c.args.out.now g.Y.Sink.tells _ _ _ (g.Y.Sink.faults c.begin_file.new.yard) (g.Y.Sink.faults c.write_ready.new.taker) c.in-Err-write_ready.fault failed.cause.failed
+    breaks_off bodies children c.args.name other c.args.out.now g.Y.Sink.tells _ _ _ (g.Y.Sink.faults c.begin_file.new.yard) (g.Y.Sink.faults c.write_stream.new.taker) c.in-Err-write_stream.fault failed.cause.failed
     (record {
       carried = carried_name bodies children c.args.name other carried;
       made = λ told. makes_front bodies children c.args.name other c.args.out.now t.text is _ _ _ _
           (some.begun_same ∙ begun.begun told)
-          (subst (λ (l : List ℕ). IsTaken l t.text (g.Y.Sink.taken c.write_ready.new.taker)) (begun.same_taken told) (some.bytes told));
+          (subst (λ (l : List ℕ). IsTaken l t.text (g.Y.Sink.taken c.write_stream.new.taker)) (begun.same_taken told) (some.bytes told));
     })

@@ -24,19 +24,19 @@ returns-in-Some-clause-found g c =
     found_whole (g.L.Look.archive c.args.look.now).bodies (g.L.Graph.children_of c.args.look.now) c.args.root c.args.marks.now c.requires.order c.in_ok-many.many (rw c.order.ensures at c.in_ok-many.ensures) c.in-Some.found.0 c.in-Some.found.1
     (rw c.in-Some.is at (rw c.order-2.ensures at c.in_ok-found.ensures))
 
-pub measure_stream-requires-clause-plain : goal.measure_stream-requires-clause-plain
-measure_stream-requires-clause-plain g c =
+pub is_long_stream-requires-clause-plain : goal.is_long_stream-requires-clause-plain
+is_long_stream-requires-clause-plain g c =
     none_odd (g.L.Look.archive c.args.look.now).bodies (g.L.Graph.children_of c.args.look.now) c.args.root c.args.marks.now c.requires.order c.in_ok-many.many (rw c.order.ensures at c.in_ok-many.ensures)
     (rw c.in_default.is at (rw c.order-2.ensures at c.in_ok-found.ensures))
 
 pub returns-then-branch-clause-found : goal.returns-then-branch-clause-found
 returns-then-branch-clause-found g c =
     root_long (g.L.Look.archive c.args.look.now).bodies (g.L.Graph.children_of c.args.look.now) c.args.root c.args.marks.now c.requires.order c.in_ok-many.many (rw c.order.ensures at c.in_ok-many.ensures)
-    (rw c.in_default.is at (rw c.order-2.ensures at c.in_ok-found.ensures)) (c.requires.kind, c.in_ok-measure_stream.ensures.long.0 c.if-branch.true)
+    (rw c.in_default.is at (rw c.order-2.ensures at c.in_ok-found.ensures)) (c.requires.kind, c.in_ok-is_long_stream.ensures.long.0 c.if-branch.true)
 
 pub returns-clause-found : goal.returns-clause-found
 returns-clause-found g c =
     let bodies = (g.L.Look.archive c.args.look.now).bodies in
     none_long bodies (g.L.Graph.children_of c.args.look.now) c.args.root c.args.marks.now c.requires.order c.in_ok-many.many (rw c.order.ensures at c.in_ok-many.ensures)
     (rw c.in_default.is at (rw c.order-2.ensures at c.in_ok-found.ensures))
-    (λ long. not_so c.in_ok-measure_stream.field-0 (IsLongStream bodies c.args.marks.now c.args.root) c.in_ok-measure_stream.ensures.long c.if-branch.false long.1)
+    (λ long. not_so c.in_ok-is_long_stream.field-0 (IsLongStream bodies c.args.marks.now c.args.root) c.in_ok-is_long_stream.ensures.long c.if-branch.false long.1)
