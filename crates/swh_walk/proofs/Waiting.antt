@@ -20,6 +20,7 @@ use Rattle.swh_model.proofs.Batches.{from_entry}
 use Rattle.swh_object.specs.Object.{IsObject}
 use Rattle.swh_store.specs.Entries.{bodies_in}
 use Rattle.swh_store.specs.Adding.{HasOther}
+use Rattle.swh_store.specs.declared.adding.Standing.TheVariants.{Other}
 use Rattle.swh_walk.specs.declared.pending.Pending.{Pending}
 use Rattle.swh_walk.specs.declared.sending.Taken.{Taken}
 use Rattle.swh_walk.specs.declared.sending.Taken.TheVariants.{Waits, Collides}
@@ -29,7 +30,7 @@ use Rattle.swh_walk.specs.declared.stop.Stop.{Stop}
 use Rattle.swh_model.specs.declared.event.EventKind.{EventKind}
 use Rattle.swh_model.specs.declared.event.Wish.{Wish}
 use Rattle.swh_place.specs.Knowing.{Words, IsLawful}
-use Rattle.swh_walk.specs.Sending.{IsHeldWhole, AllHeld, IsMet, AreSent, BatchHasRoom, IsJoined, IsPendingBatch, IsInHand, KeepsInHand, HasRoomNow, IsTakenIn, TakesEntry, AreTakenIn, AreSentAfter, AreSentButABatch}
+use Rattle.swh_walk.specs.Sending.{IsHeldWhole, AllHeld, IsMet, AreSent, BatchHasRoom, IsJoined, JoinsBatch, IsPendingBatch, IsInHand, KeepsInHand, HasRoomNow, IsTakenIn, TakesEntry, AreTakenIn, AreSentAfter, AreSentButABatch}
 use Rattle.swh_walk.proofs.Steps.{all_as, adds_then, adds_as, after_then, after_as, asking_as}
 use Rattle.swh_walk.proofs.Batches.{at_element, among_all}
 
@@ -295,3 +296,11 @@ module _ {S : Type 0} (id : Kind → List ℕ → List ℕ) (w : Words S) (law :
 -- a cut behind what waited before
 pub front_cut : (front all done left : List Entry) → all ≡ done ++ left → front ++ all ≡ (front ++ done) ++ left
 front_cut front all done left cut = ap (λ (t : List Entry). front ++ t) cut ∙ sym (append_assoc front done left)
+
+-- an entry under whose name another body waits collides once what waits is held
+pub met_before : {N : Type 0} (bodies : Bodies) (p q : Pending N) (e : Entry) (name : Name) → p.held ≡ p.objects.items → JoinsBatch p q e Other → (HasOther (bodies_in q.objects.items) e → IsMet bodies (q.objects.items ++ e ∷ []) name)
+    → IsMet bodies (p.objects.items ++ e ∷ []) name
+met_before {N} bodies p q e name held joins met =
+    let same : q.objects.items ≡ p.objects.items = ap (λ (r : Pending N). r.objects.items) joins.1 in
+    let other : HasOther (bodies_in p.objects.items) e = subst (λ (es : List Entry). HasOther (bodies_in es) e) held joins.0 in
+    subst (λ (es : List Entry). IsMet bodies (es ++ e ∷ []) name) same (met (subst (λ (es : List Entry). HasOther (bodies_in es) e) (sym same) other))

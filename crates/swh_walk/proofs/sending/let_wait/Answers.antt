@@ -1,7 +1,8 @@
+use Rattle.std.proofs.Common.{sym}
 use Rattle.swh_place.specs.Knowing.{held_in}
 use Rattle.swh_walk.specs.Owning.{IsBatchAmong}
 use Rattle.swh_walk.proofs.Steps.{adds_none}
-use Rattle.swh_walk.proofs.Waiting.{taken_new, taken_waiting}
+use Rattle.swh_walk.proofs.Waiting.{met_before, taken_new, taken_waiting}
 use Rattle.swh_walk.proofs.sending.let_wait.Goals as goal
 
 pub returns-in-New-clause-taken : goal.returns-in-New-clause-taken
@@ -20,3 +21,9 @@ returns-in-Known-clause-taken g c =
 
 pub returns-in-Known-clause-adds : goal.returns-in-Known-clause-adds
 returns-in-Known-clause-adds g c = adds_none g.N.Namer.id_of (g.P.Place.words c.args.place.now) (g.met.P.Place.lawful c.args.place.now) (IsBatchAmong (g.P.Place.words c.args.place.now).alone c.args.pending.objects.items) c.args.seat.now c.requires.ready
+
+pub returns-in-Ok-send_before-clause-taken : goal.returns-in-Ok-send_before-clause-taken
+returns-in-Ok-send_before-clause-taken g c =
+    let w = g.P.Place.words c.args.place.now in
+    met_before (held_in (w.known c.send_before.new.seat)) c.args.pending c.join.new.self c.args.object c.in-Ok-send_before.name c.requires.waiting.held (rw c.in-Other.is at c.in-Ok.ensures)
+    (λ other. c.in-Ok-send_before.ensures.met c.args.object (sym c.name-name.ensures.name) other)
