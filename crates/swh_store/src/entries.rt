@@ -20,7 +20,7 @@ impl Held {
     ghost use Rattle.swh_store.specs.Entries.{bodies_in, stored_in};
     ghost use Rattle.swh_store.specs.Places.{IsIndexed};
 
-    /// No entries, and no marks. It takes no memory.
+    /// No entries. It takes no memory.
     pub fn new(alloc: Global) -> Held
         ensures indexed { IsIndexed result }
         ensures none { result.entries.items ≡ [] }

@@ -7,8 +7,8 @@ use std::marker::Model;
 use swh_base::{Entry, Graph, Memory, Name};
 
 /// A finite map from names to entries, seen as one to bodies and one to children. A body stands in memory once, and is
-/// shared with the entries that are added. Its index is ordered: strangers choose names, and no choice makes a look-up
-/// longer than the logarithm of their number.
+/// shared with the entries that are added. Strangers choose names: the few slots tried for one, and an ordered map behind
+/// them, keep any look-up within the logarithm of the number of names.
 #[derive(Drop)]
 pub struct Store {
     pub(crate) held: Held,
