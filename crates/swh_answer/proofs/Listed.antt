@@ -1,8 +1,7 @@
 -- The tokens of an entry, and those of a directory's entries one after another, are those of their trees.
-use Rattle.std.proofs.Common.{◌≡◌, ℕ, ◌+◌, ◌<◌, length, take, get_or, sym, Result, Ok, Err, OnOk, List, [], ◌∷◌, ◌++◌, map, refl, ap, ◌∙◌, codes, decimal}
+use Rattle.std.proofs.Common.{◌≡◌, ℕ, ◌+◌, ◌<◌, Result, Ok, Err, OnOk, List, [], ◌∷◌, ◌++◌, map, refl, ap, ◌∙◌, codes, decimal}
 use Rattle.std.specs.List.{flat_map}
-use Rattle.std.proofs.lemmas.Grind.{flat_map-append}
-use Rattle.std.proofs.lemmas.List.{take_more, append_assoc, append-nil}
+use Rattle.std.proofs.lemmas.List.{append_assoc}
 use Rattle.json.specs.Token.{Token, begin_object, end_object, begin_array, end_array, key, string, number}
 use Rattle.json.specs.Print.{print}
 use Rattle.json.specs.Tree.{json_tokens, items_tokens}
@@ -44,12 +43,6 @@ entry_tokens e = json_tokens (outline (entry_data (entry_of e)))
 -- an array's bracket, and the tokens of these entries
 abbrev pub opened_tokens : List SpelledEntry → List Token
 opened_tokens es = begin_array ∷ flat_map entry_tokens es
-
-pub one_more_entry : (all : List SpelledEntry) (i : ℕ) (d : SpelledEntry) (old new : List Token) → old ≡ opened_tokens (take i all) → i < length all → new ≡ old ++ entry_tokens (get_or all i d) → new ≡ opened_tokens (take (i + 1) all)
-one_more_entry all i d old new so_far less is =
-    let x = get_or all i d in
-    is ∙ ap (λ (ts : List Token). ts ++ entry_tokens x) so_far ∙ ap (λ (ts : List Token). begin_array ∷ (flat_map entry_tokens (take i all) ++ ts)) (sym (append-nil (entry_tokens x)))
-    ∙ ap (λ (ts : List Token). begin_array ∷ ts) (sym (flat_map-append entry_tokens (take i all) (x ∷ []))) ∙ ap opened_tokens (sym (take_more all i d less))
 
 closed : (es : List SpelledEntry) → flat_map entry_tokens es ++ end_array ∷ [] ≡ items_tokens (items_outline (items_of (map entry_data (entries_in_body es))))
 closed [] = refl

@@ -7,7 +7,7 @@ use Rattle.swh_base.specs.Limits.{body_limit, line_limit}
 use Rattle.swh_base.proofs.Splits.{first_split, sized_split}
 use Rattle.swh_pieces.proofs.Middle.{in_middle}
 use Rattle.swh_outside.specs.Faults.{Rose}
-use Rattle.swh_fastlex.specs.Line.{Held, unread, Takes, IsLine, IsCutLine, IsLongLine, IsCutData}
+use Rattle.swh_fastlex.specs.Line.{Held, unread, Takes, IsLine, IsCutLine, IsLongLine}
 use Rattle.swh_batchread.specs.declared.fault.BatchFault.{BatchFault}
 use Rattle.swh_batchread.specs.declared.fault.BatchFault.TheVariants.{BadBatch, WrongName, BadRefs, NoObject, Limit, ReadFault, Memory}
 use Rattle.swh_batchread.specs.declared.header.Header.{Header}
@@ -35,10 +35,6 @@ fails_as tells May More B C old middle new (WrongName given got) may so same h =
 fails_as tells May More B C old middle new (BadRefs line) may so same h = record { possible = may (BadRefs line) h.possible; told = λ t. so t (BadRefs line) (h.told t) }
 fails_as tells May More B C old middle new (NoObject id) may so same h = record { possible = may (NoObject id) h.possible; told = λ t. so t (NoObject id) (h.told t) }
 fails_as tells May More B C old middle new (Limit which number) may so same h = record { possible = may (Limit which number) h.possible; told = λ t. so t (Limit which number) (h.told t) }
-
--- other ways to break, and an earlier count of faults
-pub fails_in : (tells : Type 0) (May B C : BatchFault → Type 0) (old middle new : ℕ) (fault : BatchFault) → (tells → (f : BatchFault) → B f → C f) → middle ≡ old → Fails tells May B middle new fault → Fails tells May C old new fault
-fails_in tells May B C old middle new fault so same h = fails_as tells May May B C old middle new fault (λ f m. m) so same h
 
 -- ## Lines
 
@@ -116,16 +112,6 @@ other_header tells before now left left_now line old new fault past within low i
 
 pub takes_both : (a b c : Held) (la lb lc x y : List ℕ) → Takes a b la lb x → Takes b c lb lc y → Takes a c la lc (x ++ y)
 takes_both a b c la lb lc x y t s = record { cut = t.cut ∙ ap (λ (u : List ℕ). x ++ u) s.cut ∙ sym (append_assoc x y (unread c lc)); counted = omega (arith, t.counted, s.counted, length-append x y) }
-
--- the input ends inside a body
-pub cut_body : (tells : Type 0) (before now : Held) (left left_now : List ℕ) (start size old new : ℕ) (fault : BatchFault) → (input_limit < now.place → fault ≡ Limit Stream (input_limit + 1)) → (now.place ≤ input_limit → fault ≡ BadBatch start) → start ≤ input_limit → size ≤ body_limit
-    → (tells → IsCutData size before now left left_now) → Fails tells MayBreakBatch (BodyBreaks start before.place (unread before left) size) old new fault
-cut_body tells before now left left_now start size old new fault past within low small cut =
-    let text : List ℕ = unread before left in
-    let long = length-take (size + 1) text in
-    broken_fails tells (BodyBreaks start before.place text size) start now.place old new fault past within low
-    (λ t above. let c = cut t in inr ((refl, refl), record { short = small; above = omega (arith, c.counted, c.short, above, long) }))
-    (λ t below. let c = cut t in (refl, record { short = small; within = omega (arith, c.counted, c.short, below, long); none = λ body rest l e. absurd (omega (arith, c.short, l, ap length e, length-append body (10 ∷ rest))) }))
 
 -- the bytes of a body, and what follows them
 abbrev pub Follows : Held → Held → Held → List ℕ → List ℕ → List ℕ → List ℕ → Type 0

@@ -107,9 +107,6 @@ leads_new name old new none put id = by_test (is_at (slice_cmp nat_cmp name.id) 
 
 -- ## Names that are known
 
-pub no_names_known : (known : Names) → known.first.entries ≡ [] → known.all ≡ [] → KnowsNames [] known
-no_names_known known first all = record { first = λ id. ap (λ (es : List (List ℕ × Kind)). kind_in es id) first; all = λ n. (λ c. subst (λ (ns : List Name). Contains ns n) all c, λ c. subst (λ (ns : List Name). Contains ns n) (sym all) c) }
-
 pub known_more : (before : List Name) (name : Name) (old new : Names) → KnowsNames before old → LeadsFirst name old.first.entries new.first.entries → ((n : Name) → Contains new.all n ↔ (Contains old.all n ⊎ (name ≡ n))) → KnowsNames (before ++ name ∷ []) new
 known_more before name old new k leads added =
     record {

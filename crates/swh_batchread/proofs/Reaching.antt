@@ -19,7 +19,7 @@ use Rattle.swh_batchread.specs.declared.fault.BatchFault.{BatchFault}
 use Rattle.swh_batchread.specs.declared.fault.BatchFault.TheVariants.{BadBatch, WrongName, BadRefs, NoObject, Limit, ReadFault, Memory}
 use Rattle.swh_batchread.specs.declared.header.Header.{Header}
 use Rattle.swh_batchread.specs.Batch.{Given, IsHeader, IsGiven, KeepsFirst, MeansObjects, header_text, given_text, batch_text, input_limit}
-use Rattle.swh_batchread.specs.BatchFault.{ObjectBreaks, BreaksBehind, BreaksHere, Reaches, BreaksBatch}
+use Rattle.swh_batchread.specs.BatchFault.{ObjectBreaks, BreaksBehind, BreaksHere, Reaches}
 use Rattle.swh_batchread.specs.Failing.{Fails}
 use Rattle.swh_batchread.specs.Parts.{Keeps, TakesObject, HasRead}
 use Rattle.swh_batchread.proofs.Breaking.{takes_both}
@@ -115,10 +115,6 @@ module _ (id : Kind → List ℕ → List ℕ) where
   pub all_read : (text : List ℕ) (a : Held) (la : List ℕ) (kept : List Made) → HasRead id text a la kept → unread a la ≡ [] → MeansObjects id text kept
   all_read text a la kept r nothing =
       record { given = r.given; are = r.reaches.are; spelled = r.reaches.cut ∙ ap (λ (t : List ℕ). batch_text r.given ++ t) nothing ∙ append-nil (batch_text r.given); kept = r.keeps }
-
-  -- what breaks here breaks the batch
-  pub batch_breaks : (text : List ℕ) (a : Held) (la : List ℕ) (kept : List Made) (fault : BatchFault) → HasRead id text a la kept → BreaksHere id a.place (unread a la) fault → BreaksBatch id text fault
-  batch_breaks text a la kept fault r breaks = record { given = r.given; at = a.place; rest = unread a la; reaches = r.reaches; breaks = breaks }
 
 pub nothing_left : (bytes left : List ℕ) → bytes ++ left ≡ [] → left ≡ []
 nothing_left [] left e = e

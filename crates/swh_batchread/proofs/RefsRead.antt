@@ -16,7 +16,7 @@ use Rattle.swh_batchread.specs.Batch.{input_limit}
 use Rattle.swh_batchread.specs.Failing.{Fails}
 use Rattle.swh_batchread.specs.Refs.{RefLine, ref_text, refs_text, MayFollowRefs, AreRefLines}
 use Rattle.swh_batchread.specs.RefsFault.{LineIsLong, PassesInput, LineBreaks, RefBreaks, BreaksLines, MayBreakLines}
-use Rattle.swh_batchread.specs.RefSteps.{told, Holds, TakesLine, HasLines, GivesLines}
+use Rattle.swh_batchread.specs.RefSteps.{told, TakesLine, HasLines}
 use Rattle.swh_batchread.proofs.Breaking.{whole_line, found_line}
 
 -- ## Where no line is given
@@ -96,10 +96,6 @@ no_lines before r more e = absurd (no_cut before r more e)
 pub text_push : (rs : List RefLine) (r : RefLine) → refs_text (rs ++ r ∷ []) ≡ refs_text rs ++ ref_text r
 text_push rs r = flat_map-append ref_text rs (r ∷ []) ∙ ap (λ (t : List ℕ). refs_text rs ++ t) (append-nil (ref_text r))
 
--- nothing is read
-pub nothing_lines : (tells : Type 0) (left : List ℕ) (a : Held) (refs : Refs) → a.bytes ≡ [] → a.place ≡ 0 → Holds [] refs → HasLines tells left a left 1 refs
-nothing_lines tells left a refs empty first holds = record { lines = []; are = no_lines; held = holds; here = first; count = refl; cut = λ t. ap (λ (t : List ℕ). t ++ left) (sym empty) }
-
 -- one line more
 pub line_more : (tells : Type 0) (text : List ℕ) (a b : Held) (la lb line : List ℕ) (number : ℕ) (old new : Refs) → (h : HasLines tells text a la number old) → TakesLine h.lines line new → (tells → Takes a b la lb line) → b.place ≡ a.place + length line → b.place ≤ input_limit → HasLines tells text b lb (number + 1) new
 line_more tells text a b la lb line number old new h t taken counted low =
@@ -119,16 +115,6 @@ line_more tells text a b la lb line number old new h t taken counted low =
           h.cut told ∙ ap (λ (u : List ℕ). refs_text h.lines ++ u) ((taken told).cut ∙ ap (λ (u : List ℕ). u ++ unread b lb) t.spelled)
           ∙ sym (append_assoc (refs_text h.lines) (ref_text r) (unread b lb)) ∙ ap (λ (u : List ℕ). u ++ unread b lb) (sym pushed);
     }
-
--- all is read
-pub all_lines : (tells : Type 0) (text : List ℕ) (a : Held) (la : List ℕ) (number : ℕ) (refs : Refs) → HasLines tells text a la number refs → (tells → unread a la ≡ []) → GivesLines tells text refs
-all_lines tells text a la number refs h none =
-    record { lines = h.lines; are = h.are; held = h.held; told = λ t. h.cut t ∙ ap (λ (u : List ℕ). refs_text h.lines ++ u) (none t) ∙ append-nil (refs_text h.lines) }
-
--- what breaks where a line begins
-pub row_breaks : (tells : Type 0) (text : List ℕ) (a : Held) (la : List ℕ) (number : ℕ) (refs : Refs) (fault : BatchFault) → HasLines tells text a la number refs → tells → LineBreaks number a.place (unread a la) fault → BreaksLines text fault
-row_breaks tells text a la number refs fault h t b =
-    record { before = h.lines; at = a.place; rest = unread a la; reaches = record { are = h.are; cut = h.cut t; here = h.here }; breaks = inl (subst (λ (n : ℕ). LineBreaks n a.place (unread a la) fault) h.count b) }
 
 -- what is wrong with a whole line
 pub line_breaks : (tells : Type 0) (text : List ℕ) (a b : Held) (la lb line : List ℕ) (number : ℕ) (refs : Refs) (fault : BatchFault) → (h : HasLines tells text a la number refs) → tells → IsLine line → length line ≤ line_limit → Takes a b la lb line → b.place ≤ input_limit → RefBreaks h.lines number line fault → BreaksLines text fault

@@ -23,7 +23,7 @@ use Rattle.swh_made.specs.Making.{made_from, object_of}
 use Rattle.swh_made.specs.Whole.{names_of, HasChildrenAmong, AreWhole, HasAllThatIsReached}
 use Rattle.swh_made.specs.declared.objects.Objects.{Objects}
 use Rattle.swh_made.proofs.Elements.{first_or_later, first_is, later_is, none_is, all_from, all_push, all_as}
-use Rattle.std.proofs.lemmas.List.{append-nil, map-append}
+use Rattle.std.proofs.lemmas.List.{map-append}
 use Rattle.std.proofs.lemmas.List.Concat.{flat_map-append}
 use Rattle.std.proofs.lemmas.List.Elements.{Contains-append_left, Contains-push, filter_map-append}
 use Rattle.swh_batchread.specs.declared.fault.BatchFault.{BatchFault}
@@ -139,9 +139,6 @@ branch_turn f whole done new e it rest h i n =
     ∙ ap (λ (t : List SnapshotBranch). done ++ t) (filter_map-append (branch_with f) (line_at e ∷ []) (map line_at rest))
     ∙ sym (append_assoc done (filter_map (branch_with f) (line_at e ∷ [])) (filter_map (branch_with f) (map line_at rest)))
     ∙ ap (λ (t : List SnapshotBranch). t ++ filter_map (branch_with f) (map line_at rest)) (sym n)
-
-pub branch_end : (f : List ℕ → Option Kind) (whole done : List SnapshotBranch) (it : List (Vec ℕ × List ℕ)) → whole ≡ done ++ filter_map (branch_with f) (map line_at it) → it ≡ [] → done ≡ whole
-branch_end f whole done it h i = sym (h ∙ ap (λ (es : List (Vec ℕ × List ℕ)). done ++ filter_map (branch_with f) (map line_at es)) i ∙ append-nil done)
 
 module _ (names : List Name) (known : Names) (knows : KnowsNames names known) (rs : List RefLine) (refs : Refs) (are : AreRefLines rs) (held : Holds rs refs) where
   abbrev in_map : List RefLine

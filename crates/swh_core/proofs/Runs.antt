@@ -54,10 +54,6 @@ module _ (id_of : Kind → List ℕ → List ℕ) where
   behind_twice ts us (Ok vs) = ap (λ (l : List Told). Ok l) (append_assoc ts us vs)
   behind_twice ts us (Err fault) = refl
 
-  behind_nothing : (r : Result (List Told) StepFault) → r ≡ behind [] r
-  behind_nothing (Ok ts) = refl
-  behind_nothing (Err fault) = refl
-
   -- without room for the answers no step is taken
   pub no_room : (steps : List Step) (w : World) → IsRun id_of w steps (Err Memory) w
   no_room [] w = (refl, refl)
@@ -70,18 +66,7 @@ module _ (id_of : Kind → List ℕ → List ℕ) where
     pub kept : IsWorld id_of now
     pub later : IsLater first now
 
-  pub run_begins : (all : List Step) (w : World) → IsWorld id_of w → AllByRecursion (IsMeant id_of (length w.seen)) all → RunSoFar all w all [] w
-  run_begins all w k meant = record {
-    leads = λ r w' run. subst (λ (x : Result (List Told) StepFault). IsRun id_of w all x w') (behind_nothing r) run;
-    meant = meant;
-    kept = k;
-    later = same_later w;
-  }
-
   module _ (all left left' : List Step) (first now : World) (told : List Told) (step : Step) (is : left ≡ step ∷ left') (so_far : RunSoFar all first left told now) where
-    pub next_meant : IsMeant id_of (length now.seen) step
-    next_meant = (subst (AllByRecursion (IsMeant id_of (length now.seen))) is so_far.meant).0
-
     pub run_goes_on : (t : Told) (new : World) → IsWorldStep id_of now step (Ok t) new → IsWorld id_of new → IsLater now new → RunSoFar all first left' (told ++ t ∷ []) new
     run_goes_on t new one kept later = record {
       leads = λ r w' run. subst (λ (x : Result (List Told) StepFault). IsRun id_of first all x w') (sym (behind_twice told (t ∷ []) r))

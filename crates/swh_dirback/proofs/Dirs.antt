@@ -173,6 +173,3 @@ module _ (id : Kind → List ℕ → List ℕ) (bodies : Bodies) (are : AreGoodB
     good = λ dir folder. dir_entries bodies tree good top held dir (entries dir) (folder_dir dir folder);
     all = λ dir folder e. let is = folder_dir dir folder in (entry_there dir (entries dir) is e, entry_from dir (entries dir) is e);
   }
-
-  pub root_entries : entries [] ≡ entries_in tree
-  root_entries = refl

@@ -1,7 +1,7 @@
 -- What a yard has of a file where its bytes could not all be put.
-use Rattle.std.proofs.Common.{◌≡◌, inl, inr, ℕ, List, [], ◌∷◌, ◌++◌, length, take, Err, refl, ap, ◌∙◌}
+use Rattle.std.proofs.Common.{◌≡◌, inr, ℕ, List, [], ◌∷◌, ◌++◌, length, take, Err, refl, ap, ◌∙◌}
 use Rattle.swh_outside.specs.Sink.{Begun, FileAt, TakesSome}
-use Rattle.swh_dircook.specs.Made.{Made, FileMade, Yarded, yarded, Makes, MakesSome}
+use Rattle.swh_dircook.specs.Made.{FileMade, yarded, Makes, MakesSome}
 
 pub same_yarded : (b c : List Begun) (s t : List ℕ) → b ≡ c → s ≡ t → yarded b s ≡ yarded c t
 same_yarded b c s t e f = λ k. record { begun = e k; taken = f k }
@@ -19,10 +19,4 @@ pub part_of_file : {T E : Type 0} (tells : Type 0) (begun begun_now after : List
 part_of_file tells begun begun_now after taken taken_now put path bytes fault made same still some = record {
   ok = λ told. tt;
   err = λ told. some_of_file begun begun_now after taken taken_now put path bytes (made told) (same told) still (some told);
-}
-
-pub nothing_made : {T E : Type 0} (tells : Type 0) (old : Yarded) (all : List Made) (fault : E) → Makes {T = T} {E = E} tells old all old (Err fault)
-nothing_made tells old all fault = record {
-  ok = λ told. tt;
-  err = λ told. record { some = []; front = record { before = []; behind = all; cut = refl; is = inl refl }; is = refl };
 }

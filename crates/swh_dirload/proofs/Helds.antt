@@ -15,7 +15,7 @@ use Rattle.swh_dirmade.specs.declared.place.Place.{Place}
 use Rattle.swh_dirmade.specs.declared.place.Place.TheVariants as stands
 use Rattle.swh_dirmade.specs.Giving.{Keeps}
 use Rattle.swh_dirmade.specs.Making.{IsHeld}
-use Rattle.swh_dirmade.proofs.Built.{grows, given_there, held_more}
+use Rattle.swh_dirmade.proofs.Built.{given_there, held_more}
 use Rattle.swh_dirmade.specs.declared.spot.Spot.{Spot}
 use Rattle.swh_dirload.specs.declared.lookup.Lookup.{Lookup}
 use Rattle.swh_dirload.specs.declared.lookup.Lookup.TheVariants.{Here, Free, Lost}
@@ -24,9 +24,6 @@ use Rattle.swh_dirload.specs.declared.taking.Taken.TheVariants.{Yes, No}
 use Rattle.swh_dirload.specs.Index.{LooksUp}
 use Rattle.swh_dirload.specs.Lines.{SetsMode, TakesMode, AddsProject}
 use Rattle.swh_dirload.specs.Reading.{GivesContent}
-
-pub keeps_content : (old : List Entry) (bytes : List ℕ) (new : List Entry) → GivesContent old bytes new → Keeps old new
-keeps_content old bytes new h = λ m c. grows old new h.0 h.2 m c
 
 module _ (id : Kind → List ℕ → List ℕ) where
   pub holds_content : (old : List Entry) (bytes : List ℕ) (new : List Entry) (own : List ℕ) → own ≡ id Content bytes → GivesContent old bytes new → IsHeld (names_of_made id (made new)) (stands.File 100644 own)

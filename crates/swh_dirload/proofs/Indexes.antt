@@ -101,12 +101,6 @@ the_some a b e = cc
 none_some : (n : ℕ) → None ≡ Some n → ⊥
 none_some n e = absurd (cc)
 
-pub index_none : (spots : List Spot) (entries : List (Vec ℕ × ℕ)) → entries ≡ [] → IsIndexTo spots 1 entries
-index_none spots entries e = record {
-  known = λ n some lt. absurd (omega (arith, some, lt));
-  there = λ key n is. absurd (none_some n (subst (λ (es : List (Vec ℕ × ℕ)). number_of es key ≡ Some n) e is));
-}
-
 abbrev key_at : List Spot → ℕ → List ℕ
 key_at spots n = key_text (above_at spots n) (name_at spots n)
 

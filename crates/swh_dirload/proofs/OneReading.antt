@@ -70,10 +70,6 @@ module _ (id : Kind → List ℕ → List ℕ) (tree : Tree) where
       let rest = same_reading (at + h.0) h.1 k.1 items places others now then new later h.4 (subst (λ (n : ℕ). ReadsAll id tree (at + n) k.1 items others then later) (sym first.0) k.4) in
       (same_places p q places others first.1 rest.0, rest.1)
 
-  -- what is given is what was given before, and the content of the file that is read
-  abbrev SameMade : List Entry → List Entry → Type 0
-  SameMade a b = (m : Made) → Contains (made a) m ↔ Contains (made b) m
-
   gives_more : (bytes : List ℕ) (old new : List Entry) → GivesContent old bytes new → (m : Made) → Contains (made new) m → Contains (made old) m ⊎ (m ≡ content bytes)
   gives_more bytes old new g m c = elim (given_only old new g.0 g.2 m c) [
     | inl o ↦ inl o

@@ -11,7 +11,7 @@ use Rattle.swh_listing.specs.declared.listed.Mode.TheVariants.{Executable, Link,
 use Rattle.swh_listing.specs.Line.{SaysListed}
 use Rattle.swh_listing.specs.Listing.{TakesLine, behind, Reads}
 use Rattle.swh_listing.specs.Fault.{NextBreaks}
-use Rattle.swh_listing.proofs.Readings.{one_more, all_read}
+use Rattle.swh_listing.proofs.Readings.{one_more}
 use Rattle.swh_dirload.specs.declared.lookup.Lookup.{Lookup}
 use Rattle.swh_dirload.specs.declared.lookup.Lookup.TheVariants.{Here, Free, Lost}
 use Rattle.swh_dirmade.specs.declared.place.Place.{Place}
@@ -23,7 +23,7 @@ use Rattle.swh_dirload.specs.Faults.{listing_fault}
 use Rattle.swh_dirmade.specs.Spots.{Places, place_at, IsTable, Stand}
 use Rattle.swh_dirload.specs.Places.{IsInFolder, MayTake, changed, take, TakesAll}
 use Rattle.swh_dirload.specs.Index.{MayAdd, LooksUp}
-use Rattle.swh_dirload.specs.Lines.{line_of, TakesMode, spot_of, AddsProject, IsTaken, ExplainsLines, AreTaken}
+use Rattle.swh_dirload.specs.Lines.{line_of, TakesMode, spot_of, AddsProject, IsTaken, ExplainsLines}
 use Rattle.swh_dirload.proofs.Standings.{mode_refused, mode_may, mode_taken, project_refused, project_may, project_taken}
 
 here_same : (n k : ℕ) → Here n ≡ Here k → k ≡ n
@@ -137,7 +137,3 @@ goes_wrong before text here rest number spots standing (listing.Limit which coun
     record { said = g.said; here = here; rest = rest; reads = g.reads; places = g.places; takes = g.takes; breaks = breaks }
 goes_wrong before text here rest number spots standing listing.ReadFault g breaks = tt
 goes_wrong before text here rest number spots standing listing.Memory g breaks = tt
-
--- all lines are taken
-pub goes_all : (before : Places) (text : List ℕ) (here : ℕ) (rest : List ℕ) (number : ℕ) (spots : List Spot) (standing : List Place) → Goes before text here rest number spots standing → rest ≡ [] → AreTaken before text spots standing
-goes_all before text here rest number spots standing g none = record { said = g.said; listing = all_read text g.said here rest g.reads none; places = g.places; takes = g.takes; stand = g.stand }

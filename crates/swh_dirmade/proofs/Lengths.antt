@@ -18,9 +18,9 @@ use Rattle.swh_dirmade.specs.Directories.{entry_of, entry_size}
 use Rattle.swh_dirmade.specs.Making.{IsHeld}
 use Rattle.swh_base.specs.Limits.{body_limit}
 use Rattle.swh_dirmade.specs.Numbers.{numbers_from, IsFolderAt}
-use Rattle.swh_dirmade.specs.Sizes.{size_at, size_from, size_of, AreSizes, AreShortBelow, IsFirstLong}
+use Rattle.swh_dirmade.specs.Sizes.{size_at, size_from, size_of, AreSizes, AreShortBelow}
 use Rattle.swh_dirmade.specs.Spots.{path_to, above_at, name_at, place_at, IsTable}
-use Rattle.swh_dirmade.proofs.Numbers.{step_in, step_out, from_end}
+use Rattle.swh_dirmade.proofs.Numbers.{step_in, step_out}
 use Rattle.swh_dirmade.proofs.SpotTables.{tree_of}
 
 text_size : (e : DirectoryEntry) (digits : ℕ) → length (decimal e.mode) ≡ digits → length e.id ≡ 20 → length (entry_text e) ≡ digits + length e.name + 22
@@ -94,9 +94,6 @@ get_any [] k d e lt = absurd (omega (arith, lt))
 get_any (x ∷ xs) zero d e lt = refl
 get_any (x ∷ xs) (suc k) d e lt = get_any xs k d e (omega (arith, lt))
 
-pub no_sizes : (spots : List Spot) (standing : List Place) (zeros : List ℕ) → length zeros ≡ length spots → ((k : ℕ) → get_or zeros k 0 ≡ 0) → AreSizes spots standing (length spots) zeros
-no_sizes spots standing zeros count none = record { count = count; each = λ folder lt. none folder ∙ ap (sum_by (size_at spots standing)) (sym (from_end spots folder)) }
-
 pub short_more : (spots : List Spot) (standing : List Place) (sizes : List ℕ) (number : ℕ) → AreSizes spots standing 1 sizes → number < length spots → AreShortBelow spots standing number → (IsFolderAt standing number × (body_limit < get_or sizes number 0) → ⊥) → AreShortBelow spots standing (number + 1)
 short_more spots standing sizes number are within short not_long = λ k lt folder. elim (cases_lt k number) [
   | inl below ↦ short k below folder
@@ -109,6 +106,3 @@ short_more spots standing sizes number are within short not_long = λ k lt folde
         | inr le ↦ subst (λ (n : ℕ). n ≤ body_limit) size le
       ])
 ]
-
-pub first_is_long : (spots : List Spot) (standing : List Place) (sizes : List ℕ) (number size : ℕ) → AreSizes spots standing 1 sizes → number < length spots → AreShortBelow spots standing number → size ≡ get_or sizes number 0 → IsFolderAt standing number × (body_limit < size) → IsFirstLong spots standing size
-first_is_long spots standing sizes number size are within short is long = record { number = number; within = within; folder = long.0; is = is ∙ are.each number within; long = long.1; before = short }

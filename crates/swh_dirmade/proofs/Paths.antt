@@ -7,9 +7,6 @@ use Rattle.swh_dirmade.specs.Paths.{child}
 abbrev pub Plain : List ℕ → Type 0
 Plain text = Contains text 47 → ⊥
 
-plain_rest : (c : ℕ) (text : List ℕ) → Plain (c ∷ text) → Plain text
-plain_rest c text plain = λ h. let lt = h.1 in plain (suc h.0, omega (arith, lt), h.2)
-
 has_slash : (front rest : List ℕ) → Contains (front ++ 47 ∷ rest) 47
 has_slash [] rest = (0, omega arith, refl)
 has_slash (c ∷ front) rest = let h = has_slash front rest in let lt = h.1 in (suc h.0, omega (arith, lt), h.2)

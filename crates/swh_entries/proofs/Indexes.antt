@@ -58,9 +58,6 @@ once : (b : Bool) (x y z : Option ℕ) → cond b x z ≡ cond b x (cond b y z)
 once true x y z = refl
 once false x y z = refl
 
-vec_cmp : Vec ℕ → Vec ℕ → Ordering
-vec_cmp a b = slice_cmp nat_cmp a.items b.items
-
 inserted-case : (name : List ℕ) (k : Vec ℕ) (n : ℕ) (e : Vec ℕ × ℕ) (es more : List (Vec ℕ × ℕ)) (o : Ordering) → slice_cmp nat_cmp k.items e.0.items ≡ o → number_of more name ≡ cond (is_eq (slice_cmp nat_cmp name k.items)) (Some n) (number_of es name)
     → number_of (match_ordering o ((k, n) ∷ e ∷ es) ((e.0, n) ∷ es) (e ∷ more)) name ≡ cond (is_eq (slice_cmp nat_cmp name k.items)) (Some n) (number_of (e ∷ es) name)
 inserted-case name k n e es more Less q h = refl

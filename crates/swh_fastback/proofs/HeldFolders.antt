@@ -67,10 +67,6 @@ module _ (bodies : Bodies) where
     stands : child_at c (forest_of t) ≡ IsFolder folder
     on : HasFolder (flat folder) p
 
-  later_folder : (g : Forest) (p : List (List ℕ)) → IsSound g → ((d : List ℕ) (q : List (List ℕ)) → p ≡ d ∷ q → HasFolder (flat g) (d ∷ q)) → HasFolder (flat g) p
-  later_folder g [] s h = tt
-  later_folder g (d ∷ q) s h = h d q refl
-
   goes_by : (x : Stands) (c : List ℕ) (p : List (List ℕ)) (t : Tree) → IsHeldHere t → child_at c (forest_of t) ≡ x → HasFolder (flat (forest_of t)) (c ∷ p) → GoesIn c p t
   goes_by Nothing c [] t h is (d, q, l, at) = absurd (no_leaf (d ∷ q) l (leaf_at (c ∷ d ∷ q) (flat (forest_of t))) (lookup (d ∷ q) c (forest_of t) (sound_here t h) ∙ ap (λ (x : Stands). leaf_in (found (d ∷ q) x)) is) at)
   goes_by Nothing c (e ∷ p) t h is (d, q, l, at) =

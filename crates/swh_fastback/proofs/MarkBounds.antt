@@ -40,9 +40,6 @@ mark_few (x ∷ xs) n = counted (is_at (name_cmp x) n) (is_written x) (mark_of x
 more_than : (a b : List ℕ) → 1 ≤ length b → 1 ≤ length (a ++ b)
 more_than a b h = omega (arith, h, length-append a b)
 
-first_than : (a b : List ℕ) → 1 ≤ length a → 1 ≤ length (a ++ b)
-first_than a b h = omega (arith, h, length-append a b)
-
 object_size : (bodies : Bodies) (order : List Name) (kind : Kind) (name : Name) (text : List ℕ) → IsTextOf bodies order kind name text → mark_step (is_written_kind kind) ≤ length text
 object_size bodies order Content name text t = omega (arith, ap length t.is)
 object_size bodies order Directory name text t = omega arith

@@ -145,11 +145,6 @@ mode_text mode (inl e) = subst IsModeText (sym e) (text_is 100644 (codes "100644
 mode_text mode (inr (inl e)) = subst IsModeText (sym e) (text_is 100755 (codes "100755") decimal-100755 (inr (inr (inl (refl, refl)))) refl (omega arith))
 mode_text mode (inr (inr e)) = subst IsModeText (sym e) (text_is 120000 (codes "120000") decimal-120000 (inr (inr (inr (inr (refl, refl))))) refl (omega arith))
 
-not_link : (mode : ℕ) → IsFileMode mode → mode ≢ 160000
-not_link mode (inl e) z = omega (arith, e, z)
-not_link mode (inr (inl e)) z = omega (arith, e, z)
-not_link mode (inr (inr e)) z = omega (arith, e, z)
-
 file_is : (mode digits path : List ℕ) → text_line (codes "M ") (mode ++ (codes " :" ++ (digits ++ 32 ∷ path))) ≡ codes "M " ++ (mode ++ (codes " :" ++ (digits ++ 32 ∷ (path ++ 10 ∷ []))))
 file_is mode digits path = simp append_assoc
 

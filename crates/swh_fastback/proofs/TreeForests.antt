@@ -106,9 +106,6 @@ walk-sets bodies p (Folder e inner rest) m s n h =
 
 -- ## The folder is sound
 
-are-rest : (e : DirectoryEntry) (es : List DirectoryEntry) → AreEntries (e ∷ es) → AreEntries es
-are-rest e es h = h.3
-
 leaf_mode : (mode : ℕ) → IsMode mode → mode ≢ 40000 → IsLeafMode mode
 leaf_mode mode (inl e) ne = inl e
 leaf_mode mode (inr (inl e)) ne = inr (inl e)

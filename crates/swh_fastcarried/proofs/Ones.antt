@@ -1,5 +1,5 @@
 -- Names that have a property with one of some things.
-use Rattle.std.proofs.Common.{Result, Ok, Err, ◌≡◌, ◌⊎◌, inl, inr, ℕ, ◌+◌, ◌<◌, ◌≤◌, Some, None, List, [], ◌∷◌, ◌++◌, length, map, take, get_or, sym, ◌∙◌, subst}
+use Rattle.std.proofs.Common.{Result, Ok, Err, ◌≡◌, ◌⊎◌, inl, inr, ℕ, ◌+◌, ◌<◌, ◌≤◌, List, [], ◌∷◌, ◌++◌, length, map, take, get_or, sym, ◌∙◌, subst}
 use Rattle.std.specs.Prelude.{Contains, ◌↔◌, OnOk}
 use Rattle.std.proofs.lemmas.List.{take_more, take_all}
 use Rattle.std.proofs.lemmas.List.Elements.{Contains-append_left, Contains-append_right, Contains-append_cases}
@@ -7,7 +7,7 @@ use Rattle.swh_base.specs.declared.name.Name.{Name}
 use Rattle.swh_base.specs.declared.kind.Kind.TheVariants.{Directory as DirectoryKind}
 use Rattle.swh_base.specs.Directory.{DirectoryEntry, IsDirectory}
 use Rattle.swh_base.proofs.DirectoryLemmas.{one_listing_lem}
-use Rattle.swh_model.specs.Archive.{Bodies, body_of}
+use Rattle.swh_model.specs.Archive.{Bodies}
 use Rattle.swh_graph.specs.Holding.{HoldsDirectory}
 use Rattle.swh_graph.proofs.Lists.{none_in, in_first, in_map, from_map, only, same_some}
 use Rattle.swh_fastcarried.specs.First.{IsOneOf, IsFolderOf, IsFolderAt}
@@ -91,9 +91,6 @@ module _ (bodies : Bodies) (name : Name) where
         let same = one_listing_lem holds.body has.entries entries (subst (λ (b : List ℕ). IsDirectory b has.entries) (same_some has.body holds.body (sym has.held ∙ holds.held)) has.is) holds.is in
         record { one = h.entry; there = subst (λ (es : List DirectoryEntry). Contains es h.entry) same has.there; is = h.folder },
   )
-
-  pub none_at : body_of bodies name ≡ None → (n : Name) → IsFolderAt bodies name n → ⊥
-  none_at missing n h = let e : Some h.is_entry.body ≡ None = sym h.is_entry.held ∙ missing in cc
 
 -- what stands after a name was added
 pub set_added : {T F : Type 0} (r : Result T F) (old new : List Name) (Is : Name → Type 0) (name : Name) → Is name → ((n : Name) → Is n → name ≡ n) → OnOk r ((n : Name) → Contains new n ↔ (Contains old n ⊎ (name ≡ n)))

@@ -39,10 +39,6 @@ pushed old new name is n = (
 
 module _ (bodies : Bodies) where
   module _ (name : Name) where
-    -- the directory of a revision that is held
-    pub root_at : name.kind ≡ RevisionKind → (r : Revision) → HoldsRevision bodies name r → IsRootAt bodies name (directory_name r.directory)
-    root_at kind r holds = record { kind = kind; revision = r; holds = holds; named = refl }
-
     pub only_root : (r : Revision) → HoldsRevision bodies name r → (n : Name) → IsRootAt bodies name n → directory_name r.directory ≡ n
     only_root r holds n is =
         ap (λ (x : Revision). directory_name x.directory)
@@ -52,9 +48,6 @@ module _ (bodies : Bodies) where
     -- a revision has one directory
     pub one_root : (root : Name) → IsRootAt bodies name root → (n : Name) → (root ≡ n) ↔ IsRootAt bodies name n
     one_root root is n = (λ e. subst (IsRootAt bodies name) e is, λ other. is.named ∙ only_root is.revision is.holds n other)
-
-    pub no_root : body_of bodies name ≡ None → (n : Name) → IsRootAt bodies name n → ⊥
-    no_root missing n is = let e : Some is.holds.body ≡ None = sym is.holds.held ∙ missing in cc
 
   -- a revision's directory, by the name of the revision
   pub roots_same : (order : List Name) (n : Name) → IsOneOf (IsRootAt bodies) order n ↔ IsRevisionRoot bodies order n
@@ -74,18 +67,6 @@ module _ (bodies : Bodies) where
         let same = same_some has.0 body (sym has.1 ∙ held) in
         let are = subst (λ (k : Kind). AreChildren k has.0 kids) kind has.2 in
         found ∙ ap (λ (ns : List Name). Some ns) (are.kids ∙ ap revision_children (one_revision body are.revision r (subst (λ (b : List ℕ). IsRevision b are.revision) same are.is) is))
-
-    -- the first child of a revision is its directory
-    pub first_is_root : (name kid : Name) (kids : List Name) → name.kind ≡ RevisionKind → children_of name ≡ Some kids → (rest : List Name) → kids ≡ kid ∷ rest → IsRootAt bodies name kid
-    first_is_root name kid kids kind found rest cut =
-        let has = graph.held name kids found in
-        let are = subst (λ (k : Kind). AreChildren k has.0 kids) kind has.2 in
-        record {
-          kind = kind;
-          revision = are.revision;
-          holds = record { body = has.0; held = has.1; is = are.is };
-          named = same_first kid (directory_name are.revision.directory) rest (map revision_name are.revision.parents) (sym cut ∙ are.kids);
-        }
 
     -- a revision that is held has a child
     pub has_first : (name : Name) (kids : List Name) → name.kind ≡ RevisionKind → children_of name ≡ Some kids → kids ≡ [] → ⊥

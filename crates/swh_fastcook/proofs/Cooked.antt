@@ -17,7 +17,6 @@ use Rattle.swh_carried.specs.declared.fault.CookFault.TheVariants.{NotHeld, Unca
 use Rattle.swh_fastcarried.specs.Rules.{IsOddKind, IsOddObject, BreaksIn}
 use Rattle.swh_fastcarried.proofs.FirstRules.{rule_none}
 use Rattle.swh_written.specs.Sinks.{IsTaken}
-use Rattle.swh_carried.specs.Cause.{CookBreaks}
 use Rattle.swh_fastcook.specs.Cause.{Breaks}
 use Rattle.swh_fastcook.specs.Cook.{BreaksStream, LeadsHead, IsCarriedStream, IsTextOfKind, IsCookedText, IsCooked, IsFrontCooked, ExplainsNoText}
 use Rattle.swh_fastcook.specs.Ready.{IsReady, ExplainsNotReady}
@@ -116,9 +115,6 @@ module _ (bodies : Bodies) (children_of : Name → Option (List Name)) (root : N
       by ReleaseKind k s = s
       by Snapshot k s = s
 
-  pub stream_cooked : (tells : Type 0) (old new text : List ℕ) → IsStreamText bodies order root text → (tells → new ≡ old ++ text) → IsCooked bodies children_of root tells old new head
-  stream_cooked tells old new text is took = record { carried = ready_carried; is_head = ready.is_head; text = text; is = stream_text text is; took = took }
-
   pub stream_front : (tells : Type 0) (old new : List ℕ) → ((text : List ℕ) → IsStreamText bodies order root text → tells → IsTaken old text new) → IsFrontCooked bodies children_of root tells old new
   stream_front tells old new took =
       let t = ready.has_text in
@@ -151,15 +147,3 @@ module _ (bodies : Bodies) (children_of : Name → Option (List Name)) (root : N
   broken_off before now (Uncarried name why) h f = absurd h
   broken_off before now WriteFault h f = f
   broken_off before now Memory h f = inr f
-
-  pub not_begun_cause : (count : ℕ) (fault : CookFault) → ExplainsNotReady bodies children_of root fault → CookBreaks count count fault
-  not_begun_cause count (NotHeld missing) h = refl
-  not_begun_cause count (Uncarried name why) h = refl
-  not_begun_cause count WriteFault h = absurd h
-  not_begun_cause count Memory h = refl
-
-pub broken_cause : (before now : ℕ) (fault : CookFault) → Breaks before now fault → CookBreaks before now fault
-broken_cause before now (NotHeld missing) h = absurd h
-broken_cause before now (Uncarried name why) h = absurd h
-broken_cause before now WriteFault h = h
-broken_cause before now Memory h = h

@@ -1,5 +1,5 @@
 -- Texts one after another, and how a text ends that is broken off.
-use Rattle.std.proofs.Common.{◌≡◌, ℕ, ◌≤◌, Some, None, List, [], ◌∷◌, ◌++◌, refl, sym, ap, ◌∙◌, subst, arith, append_assoc}
+use Rattle.std.proofs.Common.{◌≡◌, ℕ, ◌≤◌, Some, None, List, [], ◌∷◌, ◌++◌, refl, sym, ap, ◌∙◌, subst, append_assoc}
 use Rattle.std.specs.Prelude.{Result, OnOk, IsErr, IfErr, ⊤}
 use Rattle.std.specs.Result.{IsErrAnd}
 use Rattle.std.proofs.lemmas.List.{append-nil}
@@ -7,7 +7,6 @@ use Rattle.std.proofs.lemmas.Grind.{flat_map-append}
 use Rattle.std.proofs.lemmas.List.Concat.{flat_map-cons}
 use Rattle.std.proofs.lemmas.Result.{IfOk-from_err, MatchResult-from_err, err_from_is_err_and, on_ok_weaker, IfErr-weaker}
 use Rattle.swh_base.specs.declared.name.Name.{Name}
-use Rattle.swh_outside.specs.Faults.{Rose}
 use Rattle.swh_dirfmt.specs.declared.entry.SpelledEntry.{SpelledEntry}
 use Rattle.swh_model.specs.Archive.{Bodies}
 use Rattle.swh_graph.specs.Path.{directory_name}
@@ -15,10 +14,8 @@ use Rattle.swh_pathwalk.specs.Tree.{Row, IsPathWalk}
 use Rattle.swh_pathwalk.specs.Walk.{Coming, Standing, BeginsAt, Steps, Remain, row_of}
 use Rattle.swh_pathwalk.proofs.Steps.{begins, goes_on, ends, remain_at_first, remain_step}
 use Rattle.swh_carried.specs.declared.fault.CookFault.{CookFault}
-use Rattle.swh_carried.specs.declared.fault.CookFault.TheVariants.{WriteFault, Memory}
 use Rattle.swh_written.specs.Held.{AddsUp, Kept, kept, Goes, Wrote, WroteSome}
 use Rattle.swh_written.proofs.Pieces.{goes_appended, goes_both, front_behind, front_more}
-use Rattle.swh_fastcook.specs.Cause.{Breaks, HasWriteCause}
 use Rattle.swh_fastcook.specs.Files.{AreFilesOf, RowsSoFar}
 use Rattle.swh_fastcook.specs.Stream.{file_text, files_text}
 
@@ -30,12 +27,6 @@ module _ {A : Type 0} (before now : ℕ) (result : Result A CookFault) where
 
   no_answer : (P : Type 0) (x : CookFault) → IsErrAnd result (λ y. y ≡ x) → OnOk result P
   no_answer P x h = let e = err_from_is_err_and result h in rw e.1 tt
-
-  pub memory_cause : IsErrAnd result (λ y. y ≡ Memory) → now ≡ before → HasWriteCause before now result
-  memory_cause h same = record { later = omega (arith, same); failed = refused (Breaks before now) Memory h same; quiet = no_answer (now ≡ before) Memory h }
-
-  pub failed_cause : IsErrAnd result (λ y. y ≡ WriteFault) → before ≤ now → Rose before now → HasWriteCause before now result
-  failed_cause h later rose = record { later = later; failed = refused (Breaks before now) WriteFault h rose; quiet = no_answer (now ≡ before) WriteFault h }
 
 -- ---- texts
 

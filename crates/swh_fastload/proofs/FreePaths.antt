@@ -81,9 +81,6 @@ behind_front : (p q r : List (List ℕ)) → begins (p ++ q) (p ++ r) ≡ true �
 behind_front [] q r h = h
 behind_front (c ∷ p) q r h = behind_front p q r (both_true (same c c) (begins (p ++ q) (p ++ r)) h).1
 
-cons_same : (c : List ℕ) (p q r s : List (List ℕ)) → (p ++ q ≡ p ++ r → q ≡ r) → (c ∷ p) ++ q ≡ (c ∷ p) ++ r → q ≡ r
-cons_same c p q r s k e = let f : p ++ q ≡ p ++ r = cc in k f
-
 cancel_front : (p q r : List (List ℕ)) → p ++ q ≡ p ++ r → q ≡ r
 cancel_front [] q r e = e
 cancel_front (c ∷ p) q r e = let f : p ++ q ≡ p ++ r = cc in cancel_front p q r f

@@ -84,11 +84,6 @@ module _ {N : Type 0} (id : Kind → List ℕ → List ℕ) (tells : Type 0) (he
   }
 
 module _ {N E : Type 0} (id : Kind → List ℕ → List ℕ) (tells : Type 0) (head : Option (List ℕ)) (text : List ℕ) (faults : ℕ) (path : List ℕ) (s : StreamState) where
-  -- the last one behind those that were given before
-  pub ends_all : (r : Result (Objects N) E) (front : List Entry) (last : Objects N) → IfOk r (λ (all : Objects N). all.objects.items ≡ front ++ last.objects.items) → IfOk r (λ (all : Objects N). all.snapshot ≡ last.snapshot) → EndsStream id tells head text faults path front s last → IfOk r (EndsStream id tells head text faults path [] s)
-  ends_all (Ok all) front last items root e = all_ended id tells head text faults path s front last all items root e
-  ends_all (Err fault) front last items root e = tt
-
   pub meant_all : (r : Result (Objects N) E) → IfOk r (EndsStream id tells head text faults path [] s) → tells → IfOk r (λ (all : Objects N). Means id head text (making_of all))
   meant_all (Ok all) e told = e.means told
   meant_all (Err fault) e told = tt

@@ -1,5 +1,5 @@
 -- What a command leads to, from the objects that are given for it.
-use Rattle.std.proofs.Common.{◌≡◌, ◌≢◌, ◌⊎◌, inl, inr, ℕ, Option, Some, None, Result, Ok, Err, IfErr, List, [], ◌∷◌, ◌++◌, Contains, refl, sym, ap, ◌∙◌, subst, arith}
+use Rattle.std.proofs.Common.{◌≡◌, ◌≢◌, ◌⊎◌, inl, inr, ℕ, Option, Some, None, Result, Ok, List, [], ◌∷◌, ◌++◌, Contains, refl, sym, ap, ◌∙◌, subst, arith}
 use Rattle.std.proofs.lemmas.List.{append-nil}
 use Rattle.std.proofs.lemmas.List.Elements.{Contains-append_left}
 use Rattle.swh_base.specs.declared.kind.Kind.{Kind}
@@ -84,19 +84,12 @@ module _ (id : Kind → List ℕ → List ℕ) where
   explains_missing f r j (Limit which number) e = absurd e
   explains_missing f r j Memory e = absurd e
 
-  if_err_as : {X E : Type 0} (P Q : E → Type 0) (r : Result X E) → IfErr r P → ((e : E) → P e → Q e) → IfErr r Q
-  if_err_as P Q (Ok x) h f = tt
-  if_err_as P Q (Err e) h f = f e h
-
   module _ (s : Stock) (h : IsStocked id s) where
     abbrev known : Targets
     known = (loading_of s).aims
 
     abbrev form : Aim Tree → Aim PathMap
     form = aim_with (map_of s.grove)
-
-    only_own : (m n : Made) → Contains (m ∷ []) n → (x : Making) → x.objects ≡ m ∷ [] → Makes id x n
-    only_own m n c x e = inl (subst (λ (t : List Made). Contains t n) (sym e) c)
 
     pub own_only : (m n : Made) (new : List Made) (x : Making) → x.objects ≡ m ∷ [] → x.trees ≡ [] → ((k : Made) → Contains (m ∷ []) k → Contains new k) → Makes id x n → Contains new n
     own_only m n new x e t g (inl c) = g n (subst (λ (u : List Made). Contains u n) e c)

@@ -1,18 +1,14 @@
 -- What may be told of a stream.
-use Rattle.std.proofs.Common.{◌≢◌, ℕ, ◌+◌, nat_lt, if◌then◌else◌, inl, inr, Bool, true, false, List, refl, arith}
+use Rattle.std.proofs.Common.{◌≢◌, ℕ, ◌+◌, if◌then◌else◌, inl, inr, Bool, true, false, List, arith}
 use Rattle.swh_base.specs.declared.visit.Which.{Which}
 use Rattle.swh_base.specs.declared.visit.Which.TheVariants.{Body, Objects, Bytes, Store, Ledger, Stream, Line, Path, Ref, Refs}
-use Rattle.swh_fastlex.specs.declared.fault.DataFault.{DataFault}
 use Rattle.swh_fastlex.specs.declared.fault.DataFault.TheVariants as Data
-use Rattle.swh_fastlex.specs.declared.fault.LineFault.{LineFault}
-use Rattle.swh_fastlex.specs.declared.fault.LineFault.TheVariants.{Failed, End, Limit, Memory}
-use Rattle.swh_fastgrammar.specs.declared.fault.StreamWhy.TheVariants.{End as Ends, LeftOut, Grammar}
+use Rattle.swh_fastgrammar.specs.declared.fault.StreamWhy.TheVariants.{LeftOut, Grammar}
 use Rattle.swh_fastgrammar.specs.Fault.{is_left_out}
 use Rattle.swh_fastlines.specs.Limit.{PassesWords, PassesRefs}
 use Rattle.swh_fastlines.proofs.WordLimits.{least_limit}
-use Rattle.swh_fastrows.specs.declared.fail.ReadFail.TheVariants.{BadStream, Limit as Limits}
-use Rattle.swh_fastrows.specs.declared.row_source.TheConstants.{STREAM_LIMIT}
-use Rattle.swh_fastrows.specs.Explains.{cut_fail, data_fail, lines_fail, line_refusal}
+use Rattle.swh_fastrows.specs.declared.fail.ReadFail.TheVariants.{BadStream}
+use Rattle.swh_fastrows.specs.Explains.{line_refusal}
 use Rattle.swh_fastrows.specs.Failing.{MayPass, MayFail}
 use Rattle.swh_fastrows.specs.Within.{LinePasses, DataPasses}
 
@@ -37,28 +33,6 @@ words_may line Path number (inr (inr (text, spelled, inl path))) = path.above
 words_may line Path number (inr (inr (text, spelled, inr (source, rest, names, path)))) = path.above
 words_may line Ref number p = refs_may line number p
 words_may line Refs number p = p
-
-cut_may : (at : ℕ) → MayFail (cut_fail at)
-cut_may at = by_over (nat_lt STREAM_LIMIT at)
-  where
-    by_over : (over : Bool) → MayFail (if over then Limits Stream (STREAM_LIMIT + 1) else BadStream at Ends)
-    by_over true = refl
-    by_over false = tt
-
--- data that are counted
-pub data_may : (fault : LineFault) (at : ℕ) → fault ≢ Limit → MayFail (data_fail fault at)
-data_may Failed at n = tt
-data_may End at n = cut_may at
-data_may Limit at n = absurd (n refl)
-data_may Memory at n = tt
-
--- data up to a delimiter
-pub lines_may : (fault : DataFault) (at : ℕ) → MayFail (lines_fail fault at)
-lines_may Data.Failed at = tt
-lines_may Data.End at = cut_may at
-lines_may Data.Line at = refl
-lines_may Data.Body at = omega arith
-lines_may Data.Memory at = tt
 
 -- a line that is refused
 pub refusal_may : (line : List ℕ) (at : ℕ) → MayFail (line_refusal line at)

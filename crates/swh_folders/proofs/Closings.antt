@@ -1,28 +1,22 @@
 -- What is left when a folder is opened, edited and closed.
 use Rattle.std.proofs.Common.{◌≡◌, inl, inr, ℕ, ◌<◌, List, [], ◌∷◌, length, Option, Some, None, refl, sym, ap, subst, ◌∙◌, arith}
 use Rattle.std.specs.Global.{Vec}
-use Rattle.std.specs.List.{AllByRecursion}
-use Rattle.swh_base.specs.Directory.{IsEntryName}
 use Rattle.swh_entries.specs.declared.entry.Child.{Child}
 use Rattle.swh_entries.specs.declared.entry.Entry.{Entry}
 use Rattle.swh_folders.specs.declared.folders.Folders.{Folders}
-use Rattle.swh_folders.specs.declared.opened.Opened.{Opened}
 use Rattle.swh_entries.specs.Listed.{Listed}
 use Rattle.swh_folders.specs.Arena.{stands_of, forest_of, tree_at, entries_without, AreGood, IsIn, Grows}
 use Rattle.swh_entries.specs.Keys.{texts}
 use Rattle.swh_entries.specs.Named.{Extends}
-use Rattle.swh_folders.specs.Forest.{Forest, Stands, IsFolder, child_at, put, inserted, forest, found, graft, flat}
+use Rattle.swh_folders.specs.Forest.{Forest, Stands, IsFolder, put, inserted, forest, found, graft, flat}
 use Rattle.swh_folders.specs.Live.{IsPart}
-use Rattle.swh_folders.specs.Opened.{folder_path, own_forest, IsOpened, StaysBounded}
+use Rattle.swh_folders.specs.Opened.{StaysBounded}
 use Rattle.swh_folders.specs.PathMap.{PathMap}
 use Rattle.swh_folders.specs.Roots.{IsBelow, IsGood, root_forest}
-use Rattle.swh_folders.specs.Sound.{IsSound}
 use Rattle.swh_folders.specs.Working.{AreFolders, folder_at, root_map, IsTallied, KeepsCounts, StaysBelow, AreNeeded, IsWithin, IsSetAnew, IsBounded}
 use Rattle.swh_folders.proofs.Arenas.{arena-names, sound-names, tree-names, put-added}
-use Rattle.swh_folders.proofs.EditedRoots.{root_sound}
 use Rattle.swh_folders.proofs.Openings.{root-names}
 use Rattle.swh_folders.proofs.Overwrites.{found-same, graft-same}
-use Rattle.swh_folders.proofs.Sounds.{forest-sound, child-sound, found-sound}
 use Rattle.swh_folders.proofs.Steps.{forest-without, without-good}
 
 pub found-here : (p : List (List ℕ)) (y : Stands) (g : Forest) → forest y ≡ g → forest (found p y) ≡ forest (found p (IsFolder g))
@@ -31,21 +25,9 @@ found-here p y g is = sym (found-same p y) ∙ ap (λ (f : Forest). forest (foun
 pub graft-here : (p : List (List ℕ)) (x y : Stands) (g : Forest) → forest y ≡ g → graft p x y ≡ graft p x (IsFolder g)
 graft-here p x y g is = sym (graft-same p x y) ∙ ap (λ (f : Forest). graft p x (IsFolder f)) is
 
-pub found-forest : (p : List (List ℕ)) (y : Stands) → IsSound (forest y) → IsSound (forest (found p y))
-found-forest [] y s = s
-found-forest (c ∷ p) y s = forest-sound (found p (child_at c (forest y))) (found-sound p (child_at c (forest y)) (child-sound c (forest y) s))
-
 pub root-grown : (names names' : List (Vec ℕ)) (nodes nodes' : List Listed) (r : Option ℕ) → IsBelow (length nodes) r → Grows names nodes names' nodes' → root_forest (tree_at names' nodes') r ≡ root_forest (tree_at names nodes) r
 root-grown names names' nodes nodes' None low grows = refl
 root-grown names names' nodes nodes' (Some n) low grows = grows.trees n low
-
-pub taken-opened : (names : List (Vec ℕ)) (nodes : List Listed) (o : Opened) (p : List (List ℕ)) → IsGood names nodes → IsBelow (length nodes) o.root → folder_path o.path ≡ p → AllByRecursion IsEntryName p → AreGood (length names) (length nodes) o.node.items → own_forest names nodes o ≡ forest (found p (IsFolder (root_forest (tree_at names nodes) o.root))) → IsOpened names nodes o
-taken-opened names nodes o p good low is plain entries own = record {
-  root = low;
-  path = subst (λ (q : List (List ℕ)). AllByRecursion IsEntryName q) (sym is) plain;
-  entries = entries;
-  sound = subst IsSound (sym own) (found-forest p (IsFolder (root_forest (tree_at names nodes) o.root)) (root_sound names nodes o.root good.sound low));
-}
 
 pub edited-own : (names names' : List (Vec ℕ)) (nodes : List Listed) (es : List Entry) (name : List ℕ) (child : Option Child) (rest out : List Entry) → IsGood names nodes → Extends names names' → AreGood (length names) (length nodes) es → IsIn (length nodes) child → rest ≡ entries_without (texts names) name es → forest_of (texts names') (tree_at names' nodes) out ≡ inserted name (stands_of (tree_at names' nodes) child) (forest_of (texts names) (tree_at names' nodes) rest) → forest_of (texts names') (tree_at names' nodes) out ≡ put name (stands_of (tree_at names nodes) child) (forest_of (texts names) (tree_at names nodes) es)
 edited-own names names' nodes es name child rest out good more entries low is added =

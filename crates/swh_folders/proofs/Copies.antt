@@ -1,5 +1,5 @@
 -- One folder more after the fresh ones.
-use Rattle.std.proofs.Common.{◌≡◌, ℕ, ◌+◌, ◌<◌, ◌≤◌, Bool, true, false, List, [], ◌∷◌, ◌++◌, length, take, drop, map, reverse, get_or, refl, sym, ap, subst, ◌∙◌, inl, inr, arith, append_assoc}
+use Rattle.std.proofs.Common.{◌≡◌, ℕ, ◌+◌, ◌<◌, ◌≤◌, Bool, false, List, [], ◌∷◌, ◌++◌, length, take, drop, map, reverse, get_or, refl, sym, ap, subst, ◌∙◌, inl, inr, arith, append_assoc}
 use Rattle.std.proofs.Math.Seq.{get_or-append_seam}
 use Rattle.std.proofs.lemmas.Bool.{cases_lt}
 use Rattle.std.proofs.lemmas.List.{length-append, length-take, get_or_append_left, get_or_default, map-append, reverse-append, take-append-drop, append-nil}
@@ -11,7 +11,7 @@ use Rattle.swh_entries.specs.Keys.{texts}
 use Rattle.swh_folders.specs.Forest.{Forest, Stands, forest}
 use Rattle.swh_folders.specs.Sound.{IsSound}
 use Rattle.swh_folders.specs.Roots.{IsGood}
-use Rattle.swh_folders.specs.Live.{is_live, IsPart}
+use Rattle.swh_folders.specs.Live.{IsPart}
 use Rattle.swh_folders.specs.Moved.{IsCopied}
 use Rattle.swh_folders.proofs.Arenas.{tree-push_old, tree-push_new, arena-push, among-older, length-layers, tree-node, entries-low, same-forest}
 use Rattle.swh_folders.proofs.Lives.{part-sound}
@@ -61,34 +61,6 @@ copied-more names nodes base live x fresh moved v c within good same part =
         | inr top ↦ let m-is : m ≡ base + length fresh = omega arith in rw m-is (subst (IsPart x) (sym new) part)
       ];
     }
-
-pub copied-skip : (names : List (Vec ℕ)) (nodes : List Listed) (base : ℕ) (live : List Bool) (x : Stands) (fresh : List Listed) (moved : List ℕ) → is_live base live (base + length moved) ≡ false → IsCopied names nodes base live x fresh moved → IsCopied names nodes base live x fresh (moved ++ 0 ∷ [])
-copied-skip names nodes base live x fresh moved dark c = record {
-  arena = c.arena;
-  moves = record {
-    base_in = c.moves.base_in;
-    low = c.moves.low;
-    high = λ k lt is. elim (cases_lt k (length moved)) [
-      | inl below ↦
-          let place = get_or_append_left moved (0 ∷ []) 0 k below in
-          ap (tree_at names (take base nodes ++ fresh)) place ∙ c.moves.high k below is
-      | inr top ↦
-          let size : k < length moved + 1 = simp length-append at lt in
-          let k-is : k ≡ length moved = omega arith in
-          let yes : is_live base live (base + length moved) ≡ true = rw (← k-is) is in absurd cc
-    ];
-    inside = λ k lt is. elim (cases_lt k (length moved)) [
-      | inl below ↦
-          let place = get_or_append_left moved (0 ∷ []) 0 k below in
-          let low = c.moves.inside k below is in omega arith
-      | inr top ↦
-          let size : k < length moved + 1 = simp length-append at lt in
-          let k-is : k ≡ length moved = omega arith in
-          let yes : is_live base live (base + length moved) ≡ true = rw (← k-is) is in absurd cc
-    ];
-  };
-  parts = c.parts;
-}
 
 -- what stands below the base with these entries
 pub known-tree : (names : List (Vec ℕ)) (nodes fresh : List Listed) (base place : ℕ) (es : List Entry) (g : Forest) → IsArena names nodes → base ≤ length nodes → place < base → ((j : ℕ) → j < base → tree_at names (take base nodes ++ fresh) j ≡ tree_at names nodes j) → ((w : Listed) → (get_or nodes place w).items ≡ es)

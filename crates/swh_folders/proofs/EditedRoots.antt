@@ -1,22 +1,21 @@
 -- What an edit of a root's folder makes of the root's map.
 use Rattle.std.proofs.Common.{◌≡◌, ◌≢◌, ℕ, List, [], ◌∷◌, length, Option, Some, None, refl, sym, ap, subst, ◌∙◌}
 use Rattle.std.specs.Global.{Vec}
-use Rattle.swh_entries.specs.declared.entry.Leaf.{Leaf}
 use Rattle.swh_entries.specs.Listed.{Listed}
 use Rattle.swh_entries.specs.declared.entry.Child.{Child}
 use Rattle.swh_entries.specs.declared.entry.Child.TheVariants.{File as FileChild, Folder as FolderChild}
 use Rattle.swh_folders.specs.Arena.{stands, stands_of, tree_at}
 use Rattle.swh_folders.specs.Forest.{Forest, Stands, Nothing, IsFile, IsFolder, child_at, forest, found, graft, deleted, flat, shown}
-use Rattle.swh_folders.specs.PathMap.{PathMap, set, delete, copy, rename, held}
+use Rattle.swh_folders.specs.PathMap.{PathMap, delete, copy, rename, held}
 use Rattle.swh_folders.specs.declared.edits.Transfer.{Transfer}
 use Rattle.swh_folders.specs.declared.edits.Transfer.TheVariants.{Copy, Rename}
 use Rattle.swh_folders.specs.Transfer.{transferred, left_by}
-use Rattle.swh_folders.specs.Sound.{IsLeaf, IsSound, IsSoundHere}
+use Rattle.swh_folders.specs.Sound.{IsSound, IsSoundHere}
 use Rattle.swh_folders.specs.Roots.{IsBelow, map_of_number, AreSound, IsGood, map_at, root_forest}
 use Rattle.swh_fastlex.specs.Path.{components, IsPath}
 use Rattle.swh_folders.proofs.Canonical.{delete-here}
 use Rattle.swh_folders.proofs.Components.{path-names, components-some}
-use Rattle.swh_folders.proofs.Puts.{set-here, copy-here, rename-here, held-root, shown-some}
+use Rattle.swh_folders.proofs.Puts.{copy-here, rename-here, held-root, shown-some}
 use Rattle.swh_folders.proofs.Sounds.{child-sound, found-sound}
 
 -- the map of a root's number is that of its folder
@@ -37,10 +36,6 @@ to-root names nodes r there same = root_flat names nodes r ∙ ap flat (same (tr
 pub here-sound : (names : List (Vec ℕ)) (nodes : List Listed) (r : Option ℕ) (here : Option Child) → IsGood names nodes → IsBelow (length nodes) r → ((at : ℕ → Forest) → forest (stands_of at here) ≡ root_forest at r) → IsSound (forest (stands_of (tree_at names nodes) here))
 here-sound names nodes r here good low same = subst IsSound (sym (same (tree_at names nodes))) (root_sound names nodes r good.sound low)
 
-pub set-done : (path : List ℕ) (leaf : Leaf) (y z : Stands) (m m' : PathMap) → IsPath path → IsLeaf leaf → IsSound (forest y) → flat (forest y) ≡ m → m' ≡ flat (forest z) → z ≡ graft (components path) (IsFile leaf) y → m' ≡ set (components path) leaf m
-set-done path leaf y z m m' is_path is_leaf sound from to is =
-    to ∙ ap (λ (x : Stands). flat (forest x)) is ∙ set-here (components path) leaf y (components-some path) (path-names path is_path) is_leaf sound ∙ ap (set (components path) leaf) from
-
 pub deleted-none : (path : List ℕ) (y : Stands) (m : PathMap) → IsPath path → IsSound (forest y) → flat (forest y) ≡ m → found (components path) y ≡ Nothing → m ≡ delete (components path) m
 deleted-none path y m is_path sound from none =
     let gone = delete-here (components path) y (components-some path) (path-names path is_path) sound in
@@ -51,11 +46,6 @@ pub deleted_one : (p : List (List ℕ)) (y x : Stands) → found p y ≡ x → x
 deleted_one p y Nothing is ne = absurd (ne refl)
 deleted_one p y (IsFile l) is ne = rw is refl
 deleted_one p y (IsFolder g) is ne = rw is refl
-
-pub delete-done : (path : List ℕ) (y z : Stands) (m m' : PathMap) → IsPath path → IsSound (forest y) → flat (forest y) ≡ m → m' ≡ flat (forest z) → found (components path) y ≢ Nothing → z ≡ graft (components path) Nothing y → m' ≡ delete (components path) m
-delete-done path y z m m' is_path sound from to some is =
-    to ∙ ap (λ (x : Stands). flat (forest x)) (is ∙ sym (deleted_one (components path) y (found (components path) y) refl some))
-    ∙ delete-here (components path) y (components-some path) (path-names path is_path) sound ∙ ap (delete (components path)) from
 
 pub some-stands : (at : ℕ → Forest) (child : Child) → stands at child ≢ Nothing
 some-stands at (FileChild l) e = cc

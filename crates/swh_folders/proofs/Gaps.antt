@@ -1,12 +1,11 @@
 -- A place among entries that are in order, and what stands on both sides of it.
-use Rattle.std.proofs.Common.{◌≡◌, inl, inr, ℕ, zero, suc, ◌<◌, ◌≤◌, true, false, List, length, get_or, Option, Some, None, sym, ap, subst, ◌∙◌, All, arith}
+use Rattle.std.proofs.Common.{◌≡◌, inl, inr, ℕ, zero, suc, ◌<◌, ◌≤◌, true, false, List, length, get_or, Option, Some, None, sym, ◌∙◌, All, arith}
 use Rattle.std.specs.Prelude.{IfSome}
 use Rattle.std.specs.List.{slice_get}
 use Rattle.std.proofs.lemmas.Bool.{cases_lt}
 use Rattle.std.proofs.lemmas.Option.{slice_get_within, slice_get-get_or, get_or_from_slice_get}
 use Rattle.swh_entries.specs.declared.entry.Entry.{Entry}
-use Rattle.swh_entries.specs.declared.entry.Gap.{Gap}
-use Rattle.swh_entries.specs.Gaps.{entry_before, gap_at}
+use Rattle.swh_entries.specs.Gaps.{entry_before}
 use Rattle.swh_entries.specs.Keys.{entry_key, is_before}
 use Rattle.swh_entries.proofs.Packings.{no_entry}
 use Rattle.swh_folders.specs.Ordered.{AreOrdered}
@@ -47,7 +46,3 @@ pub name-before : (n : ℕ) (es : List Entry) (o : Option Entry) (k : ℕ) → A
 name-before n es None k all is = tt
 name-before n es (Some e) zero all is = absurd (cc)
 name-before n es (Some e) (suc j) all is = name-at n es (Some e) j all is
-
--- a gap is at its own place
-pub own-place : (g : Gap) (es : List Entry) (k : ℕ) → g ≡ gap_at es k → g ≡ gap_at es g.place
-own-place g es k is = let at : k ≡ g.place = sym (ap (λ (h : Gap). h.place) is) in subst (λ (i : ℕ). g ≡ gap_at es i) at is

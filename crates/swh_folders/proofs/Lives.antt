@@ -44,20 +44,6 @@ only-step base first old new es i d j one before h = elim (one h) [
   | inr own ↦ inr (record { place = i; other = d; within = omega arith; child = own })
 ]
 
-pub live-append : (xs : List Bool) (b : Bool) (j : ℕ) → get_or xs j false ≡ true → get_or (xs ++ b ∷ []) j false ≡ true
-live-append [] b j e = absurd cc
-live-append (x ∷ xs) b zero e = e
-live-append (x ∷ xs) b (suc j) e = live-append xs b j e
-
-pub append-live : (xs : List Bool) (b : Bool) (j : ℕ) → get_or (xs ++ b ∷ []) j false ≡ true → (get_or xs j false ≡ true) ⊎ ((j ≡ length xs) × (b ≡ true))
-append-live [] b zero e = inr (refl, e)
-append-live [] b (suc j) e = inl e
-append-live (x ∷ xs) b zero e = inl e
-append-live (x ∷ xs) b (suc j) e = elim (append-live xs b j e) [
-  | inl h ↦ inl h
-  | inr h ↦ inr (ap suc h.0, h.1)
-]
-
 -- ## Parts of a root
 
 pub tail-sound : (n : List ℕ) (k : Child) (at : ℕ → Forest) (f : Forest) → IsSound (beside n (stands at k) f) → (child_at n f ≡ Nothing) × IsSound f
@@ -115,12 +101,6 @@ part-sound x g s part = part_sound part.path x g s part.there
 
 -- ## The walk down
 
-pub parts-first : (at : ℕ → Forest) (base root n : ℕ) (live : List Bool) → base ≤ root → ((k : ℕ) → get_or live k false ≡ true → k ≡ root - base) → AreLiveParts at base live n (IsFolder (at root))
-parts-first at base root n live le only i le' lt h =
-    let same_place = only (i - base) h in
-    let is : i ≡ root = omega arith in
-    record { path = []; there = ap (λ (k : ℕ). IsFolder (at k)) (sym is) }
-
 pub parts-step : (names : List (Vec ℕ)) (nodes : List Listed) (base i root : ℕ) (w : Listed) (old new : List Bool) → IsArena names nodes → AreSound names nodes → base ≤ i → i < length nodes → is_live base old i ≡ true → ((j : ℕ) → base ≤ j → is_live base new j ≡ true → (is_live base old j ≡ true) ⊎ HasChild (get_or nodes i w).items (length (get_or nodes i w).items) j) → AreLiveParts (tree_at names nodes) base old (length nodes) (IsFolder (tree_at names nodes root)) → AreLiveParts (tree_at names nodes) base new (length nodes) (IsFolder (tree_at names nodes root))
 parts-step names nodes base i root w old new arena sound le lt live only parts j le' lt' h = elim (only j le' h) [
   | inl was ↦ parts j le' lt' was
@@ -142,12 +122,6 @@ closed-step base i nodes w old new lower lt le own more only closed i' w' from w
       let is : i' ≡ i = omega arith in
       let node : get_or nodes i w ≡ get_or nodes i' w' = rw is (get_or_default nodes i w w' lt) in
       subst (λ (v : Listed). AreMarked base new v.items (length v.items)) node own
-]
-
-pub closed-skip : (base i : ℕ) (nodes : List Listed) (live : List Bool) → is_live base live i ≡ false → IsClosed base live nodes (i + 1) → IsClosed base live nodes i
-closed-skip base i nodes live dark closed i' w' from within h = elim (cases_lt i i') [
-  | inl above ↦ closed i' w' (omega arith) within h
-  | inr top ↦ let is : i' ≡ i = omega arith in let yes : is_live base live i ≡ true = rw (← is) h in absurd cc
 ]
 
 -- marks that were written through a slice

@@ -166,10 +166,6 @@ begins-aside (x ∷ s) c d p q ne = rw (same_self x, begins-aside s c d p q ne) 
 pub leaf-cleared : (p q : List (List ℕ)) (m : PathMap) → leaf_at q (cleared p m) ≡ cond (not (begins p q || begins q p)) (leaf_at q m) None
 leaf-cleared p q m = leaf-filter (λ (x : List (List ℕ)). not (begins p x || begins x p)) q m
 
-pub begins-own : (p : List (List ℕ)) → begins p p ≡ true
-begins-own [] = refl
-begins-own (c ∷ p) = rw (same_self c, begins-own p) refl
-
 pub append_none : (p : List (List ℕ)) → p ++ [] ≡ p
 append_none [] = refl
 append_none (c ∷ p) = ap (λ (r : List (List ℕ)). c ∷ r) (append_none p)

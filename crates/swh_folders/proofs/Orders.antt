@@ -213,7 +213,3 @@ middle low high lt = (omega arith, omega arith)
 
 pub name-of : (n : ℕ) (es : List Entry) (i : ℕ) (e : Entry) → All (λ (f : Entry). f.name < n) es → i < length es → e ≡ get_or es i e → e.name < n
 name-of n es i e all lt is = subst (λ (f : Entry). f.name < n) (sym is) (all i e lt)
-
--- a name stands at a place
-pub has-name : (names : List (List ℕ)) (c : List ℕ) (es : List Entry) (k : ℕ) (e d : Entry) → has_name names c (get_or es k d) ≡ true → k < length es → e ≡ get_or es k e → same (name_at names e.name) c ≡ true
-has-name names c es k e d h lt is = subst (λ (f : Entry). has_name names c f ≡ true) (get_or_default es k d e lt ∙ sym is) h

@@ -1,6 +1,5 @@
 -- One entry more of a folder.
-use Rattle.std.proofs.Common.{◌≡◌, ℕ, ◌<◌, Bool, true, false, cond, List, [], ◌∷◌, ◌++◌, length, drop, ◌+◌, suc, zero, add-one, get_or, refl, sym, ap, ◌∙◌, arith}
-use Rattle.std.proofs.Math.Seq.{drop-cons}
+use Rattle.std.proofs.Common.{◌≡◌, ℕ, ◌<◌, Bool, true, false, cond, List, [], ◌∷◌, ◌++◌, length, ◌+◌, suc, zero, get_or, refl, sym, ap, ◌∙◌, arith}
 use Rattle.std.proofs.lemmas.List.{get_or-map}
 use Rattle.std.specs.Global.{Vec}
 use Rattle.swh_entries.specs.declared.entry.Entry.{Entry}
@@ -24,24 +23,6 @@ beside-here n c (FolderChild j) at f e = rw e refl
 pub beside-past : (n c : List ℕ) (k : Child) (at : ℕ → Forest) (f : Forest) → same n c ≡ false → child_at c (beside n (stands at k) f) ≡ child_at c f
 beside-past n c (FileChild l) at f e = rw e refl
 beside-past n c (FolderChild j) at f e = rw e refl
-
-pub child-here : (names : List (List ℕ)) (c : List ℕ) (es : List Entry) (i : ℕ) (d : Entry) (at : ℕ → Forest) → i < length es → same (name_at names (get_or es i d).name) c ≡ true → child_of names at c (drop i es) ≡ stands at (get_or es i d).child
-child-here names c es i d at lt e = rw (drop-cons es i d lt) (beside-here (name_at names (get_or es i d).name) c (get_or es i d).child at (forest_of names at (drop (suc i) es)) e)
-
-pub child-past : (names : List (List ℕ)) (c : List ℕ) (es : List Entry) (i : ℕ) (d : Entry) (at : ℕ → Forest) → i < length es → same (name_at names (get_or es i d).name) c ≡ false → child_of names at c (drop i es) ≡ child_of names at c (drop (i + 1) es)
-child-past names c es i d at lt e = rw (add-one, drop-cons es i d lt) (beside-past (name_at names (get_or es i d).name) c (get_or es i d).child at (forest_of names at (drop (suc i) es)) e)
-
-pub kept-here : (names : List (List ℕ)) (c : List ℕ) (es : List Entry) (i : ℕ) (d : Entry) → i < length es → same (name_at names (get_or es i d).name) c ≡ true → entries_without names c (drop i es) ≡ entries_without names c (drop (i + 1) es)
-kept-here names c es i d lt e = rw (add-one, drop-cons es i d lt, e) refl
-
-pub kept-past : (names : List (List ℕ)) (c : List ℕ) (es : List Entry) (i : ℕ) (d : Entry) → i < length es → same (name_at names (get_or es i d).name) c ≡ false → entries_without names c (drop i es) ≡ get_or es i d ∷ entries_without names c (drop (i + 1) es)
-kept-past names c es i d lt e = rw (add-one, drop-cons es i d lt, e) refl
-
-pub with-here : (names : List (List ℕ)) (e : Entry) (es : List Entry) (i : ℕ) (d : Entry) → i < length es → is_before (entry_key names e) (entry_key names (get_or es i d)) ≡ true → entries_with names e (drop i es) ≡ e ∷ drop i es
-with-here names e es i d lt b = rw (drop-cons es i d lt, b) refl
-
-pub with-past : (names : List (List ℕ)) (e : Entry) (es : List Entry) (i : ℕ) (d : Entry) → i < length es → is_before (entry_key names e) (entry_key names (get_or es i d)) ≡ false → entries_with names e (drop i es) ≡ get_or es i d ∷ entries_with names e (drop (i + 1) es)
-with-past names e es i d lt b = rw (add-one, drop-cons es i d lt, b) refl
 
 -- what the entries' edits make of the folder
 forest-kept : (names : List (List ℕ)) (c : List ℕ) (at : ℕ → Forest) (n : List ℕ) (k : Child) (es es' : List Entry) (b : Bool) → same n c ≡ b → forest_of names at es' ≡ without c (forest_of names at es) → cond b (forest_of names at es') (beside n (stands at k) (forest_of names at es')) ≡ without c (beside n (stands at k) (forest_of names at es))

@@ -1,15 +1,13 @@
 -- One component more of a path.
-use Rattle.std.proofs.Common.{◌≡◌, ℕ, zero, suc, ◌+◌, ◌<◌, ◌≤◌, List, [], ◌∷◌, length, take, drop, get_or, Option, Some, None, refl, sym, ap, ◌∙◌, arith, add-one}
+use Rattle.std.proofs.Common.{◌≡◌, ℕ, zero, suc, ◌+◌, ◌<◌, ◌≤◌, List, [], ◌∷◌, length, take, drop, get_or, refl, sym, ap, ◌∙◌, arith, add-one}
 use Rattle.std.proofs.Math.Seq.{drop-cons}
 use Rattle.std.proofs.lemmas.List.{get_or-map, length-map, take-take, take_all}
 use Rattle.std.specs.Borrow.{Bor}
 use Rattle.std.specs.Global.{Vec}
 use Rattle.swh_entries.specs.Listed.{Listed}
-use Rattle.swh_entries.specs.declared.entry.Child.{Child}
 use Rattle.swh_folders.specs.Forest.{Stands, put, folder, forest, step, found, graft}
-use Rattle.swh_folders.specs.Arena.{parts_of, IsIn, Grows}
+use Rattle.swh_folders.specs.Arena.{parts_of, Grows}
 use Rattle.swh_entries.specs.Named.{Extends}
-use Rattle.swh_folders.proofs.Arenas.{lower-more}
 
 pub found-more : (p : List (List ℕ)) (k : ℕ) (y : Stands) → k < length p → found (take (k + 1) p) y ≡ step (get_or p k []) (found (take k p) y)
 found-more [] k y lt = absurd (omega arith)
@@ -26,10 +24,6 @@ graft-more p k x y lt =
 
 pub component-at : (path : List (Bor (List ℕ))) (i : ℕ) (d : Bor (List ℕ)) → i < length path → get_or (parts_of path) i [] ≡ (get_or path i d).now
 component-at path i d lt = get_or-map (λ (b : Bor (List ℕ)). b.now) path i d [] lt
-
-pub in-more : (k k' : ℕ) (c : Option Child) → k ≤ k' → IsIn k c → IsIn k' c
-in-more k k' None le h = tt
-in-more k k' (Some c) le h = lower-more k k' c le h
 
 pub extends-none : (names : List (Vec ℕ)) → Extends names names
 extends-none names = record { longer = omega arith; same_names = λ i lt. refl }

@@ -6,7 +6,7 @@ use Rattle.swh_base.specs.declared.name.Name.{Name}
 use Rattle.swh_model.specs.Archive.{Bodies, IsHeld}
 use Rattle.swh_swhid.specs.declared.swhid.Swhid.{Swhid}
 use Rattle.swh_graph.specs.Answer.{Found, Nowhere, Refuses}
-use Rattle.swh_graph.specs.Path.{target_of, Follows, IsPathAnswer}
+use Rattle.swh_graph.specs.Path.{target_of, Follows}
 use Rattle.swh_graph.specs.Resolve.{names_in, behind_slash, AreComponentsOf, HasWay, LeadsTo, IsResolveAnswer}
 use Rattle.swh_graph.specs.Root.{IsRoot, HasNoRoot}
 use Rattle.swh_graph.specs.Rounds.{RootFails}
@@ -42,11 +42,6 @@ module _ (bodies : Bodies) where
       follows = entry_leads bodies root a.components entry a.is;
       number_is = a.number_is;
     }
-
-    pub end_fails : (fault : GraphFault) → behind_slash path ≢ [] → Refuses (IsPathAnswer bodies root (behind_slash path)) fault → EndFails bodies root path fault
-    end_fails (NotHeld name) some why = (why.components, (inr (some, why.are), why.is))
-    end_fails (NoPath number) some why = (why.components, (inr (some, why.are), why.is))
-    end_fails Memory some why = tt
 
   -- ---- a way from an anchor
 

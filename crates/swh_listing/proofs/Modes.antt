@@ -1,7 +1,6 @@
 -- What a line begins with, and what it says: one thing at most.
 use Rattle.std.proofs.Common.{◌≡◌, ℕ, List, [], ◌∷◌, ◌++◌, Contains, refl, sym, ap, ◌∙◌, subst, arith, codes, append_assoc}
 use Rattle.hex.specs.Hex.{encode_lower}
-use Rattle.swh_pieces.proofs.Middle.{in_middle}
 use Rattle.swh_base.proofs.Ids.{IsIdText-encode}
 use Rattle.swh_base.proofs.Splits.{first_split}
 use Rattle.swh_base.specs.Name.{IsId, is_lower_hex_digit}
@@ -37,27 +36,13 @@ project_cut id text = ap (λ (t : List ℕ). codes "160000 " ++ t) (append_assoc
 id-no_space : (id : List ℕ) → IsId id → Contains (encode_lower id) 32 → ⊥
 id-no_space id h k = not_among is_lower_hex_digit 32 (encode_lower id) refl (IsIdText-encode id h).1 k
 
-pub project_is : (text digits rest id : List ℕ) → text ≡ digits ++ 32 ∷ rest → SpellsId digits id → BeginsMode (codes "160000 " ++ text) (Project id) rest
-project_is text digits rest id cut spells = record {
-  spelled = ap (λ (t : List ℕ). codes "160000 " ++ t) (cut ∙ ap (λ (d : List ℕ). d ++ 32 ∷ rest) spells.0) ∙ sym (project_cut id rest);
-  id = spells.1;
-}
-
 no_project : (text : List ℕ) → ((id rest : List ℕ) → text ≡ encode_lower id ++ 32 ∷ rest → IsId id → ⊥) → NoMode (codes "160000 " ++ text)
 no_project text none Executable rest h = let n : 54 ≡ 48 = ap second h.spelled in absurd (omega (arith, n))
 no_project text none Link rest h = let n : 54 ≡ 50 = ap second h.spelled in absurd (omega (arith, n))
 no_project text none (Project id) rest h = none id rest (same_tail (codes "160000 ") text (encode_lower id ++ 32 ∷ rest) (h.spelled ∙ project_cut id rest)) h.id
 
-pub no_project_space : (text : List ℕ) → (Contains text 32 → ⊥) → NoMode (codes "160000 " ++ text)
-no_project_space text none = no_project text (λ id rest e h. none (subst (λ (t : List ℕ). Contains t 32) (sym e) (in_middle (encode_lower id) rest 32)))
-
 pub no_project_id : (text word after : List ℕ) → (Contains word 32 → ⊥) → text ≡ word ++ 32 ∷ after → ((id : List ℕ) → SpellsId word id → ⊥) → NoMode (codes "160000 " ++ text)
 no_project_id text word after plain cut none = no_project text (λ id rest e h. none id (sym (first_split 32 (encode_lower id) word rest after (id-no_space id h) plain (sym e ∙ cut)).0, h))
-
-pub no_mode : (line : List ℕ) → Lacks (codes "100755 ") line → Lacks (codes "120000 ") line → Lacks (codes "160000 ") line → NoMode line
-no_mode line a b c Executable rest h = a rest h.spelled
-no_mode line a b c Link rest h = b rest h.spelled
-no_mode line a b c (Project id) rest h = c (encode_lower id ++ 32 ∷ rest) (h.spelled ∙ project_cut id rest)
 
 -- A line begins with one mode at most.
 pub one_mode : (line : List ℕ) (m n : Mode) (s t : List ℕ) → BeginsMode line m s → BeginsMode line n t → (m ≡ n) × (s ≡ t)
@@ -98,6 +83,3 @@ line_is line listed text begins path =
 pub line_no_path : (line : List ℕ) (mode : Mode) (text : List ℕ) → BeginsMode line mode text → ((path : List ℕ) → NamesPath text path → ⊥) × ((number : ℕ) → PassesPath 10 text number → ⊥) → IsWord (SaysListed line) (PassesPathIn line) No
 line_no_path line mode text begins none =
     (λ listed s. none.0 listed.path (subst (λ (t : List ℕ). NamesPath t listed.path) (one_mode line listed.mode mode s.text text s.begins begins).1 s.path), λ number p. none.1 number (subst (λ (t : List ℕ). PassesPath 10 t number) (one_mode line p.mode mode p.text text p.begins begins).1 p.passes))
-
-pub line_no_mode : (line : List ℕ) → NoMode line → IsWord (SaysListed line) (PassesPathIn line) No
-line_no_mode line none = (λ listed s. none listed.mode s.text s.begins, λ number p. none p.mode p.text p.begins)

@@ -1,12 +1,8 @@
 -- Lines that were read, and one more.
-use Rattle.std.proofs.Common.{◌≡◌, ℕ, ◌+◌, List, [], ◌∷◌, ◌++◌, length, refl, sym, ap, subst}
-use Rattle.swh_listing.specs.declared.fault.ListingFault.{ListingFault}
-use Rattle.swh_listing.specs.declared.fault.ListingFault.TheVariants.{BadModes, Limit, ReadFault, Memory}
+use Rattle.std.proofs.Common.{◌≡◌, ℕ, ◌+◌, List, [], ◌∷◌, ◌++◌, refl, sym, ap, subst}
 use Rattle.swh_listing.specs.declared.listed.Listed.{Listed}
 use Rattle.swh_listing.specs.Line.{SaysListed}
 use Rattle.swh_listing.specs.Listing.{TakesLine, behind, Reads, IsListing}
-use Rattle.swh_listing.specs.Fault.{NextBreaks}
-use Rattle.swh_listing.specs.Reading.{Explains}
 
 pub one_more : (at : ℕ) (text : List ℕ) (lines : List Listed) (here : ℕ) (rest line next : List ℕ) (listed : Listed) → Reads at text lines here rest → TakesLine here rest line next → SaysListed line listed → Reads at text (lines ++ listed ∷ []) (behind here line) next
 one_more at text [] here rest line next listed r takes says =
@@ -16,12 +12,6 @@ one_more at text (l ∷ lines) here rest line next listed r takes says = (r.0, r
 
 pub all_read : (text : List ℕ) (lines : List Listed) (here : ℕ) (rest : List ℕ) → Reads 0 text lines here rest → rest ≡ [] → IsListing text lines
 all_read text lines here rest r e = (here, subst (λ (t : List ℕ). Reads 0 text lines here t) e r)
-
-pub explains : (text : List ℕ) (lines : List Listed) (here : ℕ) (rest : List ℕ) (fault : ListingFault) → Reads 0 text lines here rest → NextBreaks here rest (length lines + 1) fault → Explains text fault
-explains text lines here rest (BadModes line) r b = record { lines = lines; here = here; rest = rest; reads = r; breaks = b }
-explains text lines here rest (Limit which number) r b = record { lines = lines; here = here; rest = rest; reads = r; breaks = b }
-explains text lines here rest ReadFault r b = tt
-explains text lines here rest Memory r b = tt
 
 pub none_left : (held left : List ℕ) → held ++ left ≡ [] → left ≡ []
 none_left [] left e = e

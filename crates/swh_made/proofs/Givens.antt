@@ -9,7 +9,7 @@ use Rattle.swh_base.specs.declared.entry.Entry.{Entry}
 use Rattle.swh_base.specs.Name.{IsId}
 use Rattle.swh_object.specs.Object.{IsObject}
 use Rattle.swh_model.specs.Meaning.{Made}
-use Rattle.swh_made.specs.Making.{made_from, made, name_of, names_of_made, HaveIds}
+use Rattle.swh_made.specs.Making.{made_from, made, name_of, names_of_made}
 use Rattle.swh_made.specs.Giving.{AreNew, IsReady, AreReady, Gives}
 use Rattle.swh_made.specs.Seen.{Adds}
 use Rattle.swh_made.specs.declared.seen.Novelty.{Novelty}
@@ -55,12 +55,6 @@ module _ (id : Kind → List ℕ → List ℕ) where
             (λ c. new (subst (λ (t : List Made). Contains t (made_from e)) same c)) is
             (subst (λ (t : List Made). AllByRecursion (Contains (names_of_made id t)) e.kids) (sym same) kids),
       )
-
-  pub gives_none : (old : List Made) → HaveIds id old → Gives id [] old old []
-  gives_none old ids = record { given = sym (append-nil old); each = tt; all = λ m c. absurd (none_there m c); fresh = tt; ids = ids }
-    where
-      none_there : (m : Made) → Contains [] m → ⊥
-      none_there m (k, l, e) = absurd (omega arith)
 
   module _ (ms old seen : List Made) (out : List Entry) (e : Entry) where
     pub gives_known : Gives id ms old seen out → Contains seen (made_from e) → Gives id (ms ++ made_from e ∷ []) old seen out

@@ -213,9 +213,6 @@ pub noted_new : (made : List Made) (digest : ℕ) (place : ℕ) (m : Made) (old 
     → GetsPlace digest place old new × IsNowhere made digest m old
 noted_new made digest place m old new told e noted = subst (IsNoted made digest place m old new) e noted
 
-pub mapped_known : (made : List Made) (digest : ℕ) (place : ℕ) (m : Made) (old new : Places) (told : Novelty) → told ≡ Known → IsMapped made digest place m old new told → SameMapped old new × Contains made m
-mapped_known made digest place m old new told e noted = subst (IsMapped made digest place m old new) e noted
-
 one_led : (o : Option ℕ) (j k : ℕ) → o ≡ Some j → o ≡ Some k → j ≡ k
 one_led o j k e f = cc
 

@@ -165,14 +165,6 @@ kept_synced file base ranges longest seen base_now ranges_now longest_now kept b
   seen_is = kept.seen_is;
 }
 
--- what is settled is an image
-pub sees_settled : (seen base_now : List ℕ) (ranges_now : List (ℕ × ℕ)) (longest_now : ℕ) → base_now ≡ seen → longest_now ≡ length seen → IsImage (kept_file base_now ranges_now longest_now seen []) seen
-sees_settled seen base_now ranges_now longest_now base_is longest_is = record {
-  stays = λ k h out. ap (λ (l : List ℕ). get_or l k 0) (sym base_is);
-  no_shorter = omega (arith, ap length base_is);
-  no_longer = omega (arith, longest_is);
-}
-
 -- a write on record that failed, and one that did not
 pub recorded_write_failed : (made : List ℕ) (calls : List MemoryRecord) (written base : List ℕ) (ranges : List (ℕ × ℕ)) (longest : ℕ) (seen : List ℕ) (at : ℕ) (bytes : List ℕ) (failed : Bool) (calls_now : List MemoryRecord) (written_now : List ℕ) (ranges_now : List (ℕ × ℕ)) (longest_now : ℕ)
     → sizes_of calls ≡ length written → IsRecorded made calls written base ranges longest seen → failed ≡ true → calls_now ≡ calls ++ record { call = Written at (length bytes); failed = failed } ∷ [] → written_now ≡ written ++ bytes

@@ -101,10 +101,6 @@ module _ (bodies : Bodies) (root p : Name) (known l : List Name) (place : ℕ) (
   all_reached : (l' : List Name) (g : GainsChildren bodies p l l') → AllByRecursion (λ n. Reaches bodies root n × IsHeld bodies n) (w.gains.more ++ g.more)
   all_reached l' g = all-append (λ n. Reaches bodies root n × IsHeld bodies n) w.gains.more g.more w.gains.reached (reached_more bodies root p parent_held.0 g.more g.held_children)
 
-  pub gains-next : (l' : List Name) → GainsChildren bodies p l l' → GainsReached bodies root known l'
-  gains-next l' g =
-      record { more = w.gains.more ++ g.more; behind = joined l' g; reached = all_reached l' g }
-
   pub walk-next : (l' : List Name) → GainsChildren bodies p l l' → ((child : Name) → IsChild bodies p child → Contains l' child) → Walked bodies root known l' (place + 1)
   walk-next l' g all =
       let a = at_place (λ n. Reaches bodies root n × IsHeld bodies n) w.gains.more w.done p there w.gains.reached in

@@ -74,11 +74,6 @@ place-none url [] h = refl
 place-none url (o ∷ os) h =
     ap (λ (b : Bool). cond b (Some o.visits.items) (find R url (map with_visits os))) (other_url url o.origin (λ e. h.0 (sym e))) ∙ place-none url os h.1
 
-pub place-within : (url : List ℕ) (os : List VisitedOrigin) (k : ℕ) → IsPlaceOf url os k → k < length os
-place-within url [] k h = absurd h
-place-within url (o ∷ os) zero h = omega arith
-place-within url (o ∷ os) (suc k) h = let l = place-within url os k h.1 in omega (arith, l)
-
 pub place-named : (url : List ℕ) (os : List VisitedOrigin) (k : ℕ) (o : VisitedOrigin) → IsPlaceOf url os k → o ≡ get_or os k o → o.origin ≡ url
 place-named url [] k o h is = absurd h
 place-named url (p ∷ os) zero o h is = ap (λ (q : VisitedOrigin). q.origin) is ∙ h

@@ -4,7 +4,6 @@ use Rattle.std.specs.List.{slice_get}
 use Rattle.swh_base.specs.declared.name.Name.{Name}
 use Rattle.swh_base.specs.declared.entry.Entry.{Entry}
 use Rattle.swh_base.specs.declared.visit.Status.{Status}
-use Rattle.swh_base.specs.declared.visit.Which.{Which}
 use Rattle.swh_base.specs.declared.visit.Which.TheVariants.{Objects}
 use Rattle.swh_base.specs.Limits.{objects_limit}
 use Rattle.swh_model.specs.declared.event.Visit.{Visit}
@@ -19,22 +18,17 @@ use Rattle.swh_model.specs.Archive.{Bodies, body_of, visits_of, IsHeld}
 use Rattle.swh_model.specs.Step.{replay}
 use Rattle.swh_base.specs.Snapshot.{snapshot_name}
 use Rattle.swh_base.specs.Visit.{IsFinal, last_status}
-use Rattle.swh_model.specs.Judge.{not_held, event_of, BatchPasses, FilePasses, BatchCause, MarkCause, Collides, which_rank, rank, ComesBefore, IsVerdict}
+use Rattle.swh_model.specs.Judge.{not_held, event_of, BatchPasses, FilePasses, BatchCause, MarkCause, Collides, rank, ComesBefore, IsVerdict}
 use Rattle.swh_model.proofs.Verdicts.{length-fresh, le_unless}
 use Rattle.swh_model.proofs.Worked.{none_below, none_before, earlier}
 use Rattle.swh_model.proofs.Walks.{reaches-next}
-use Rattle.swh_model.specs.Judged.{IsFirstOf, NonePasses, IsAt, IsVisitRefusal, MayBeMarked, IsSnapshotRefusal, SuitsStatus}
+use Rattle.swh_model.specs.Judged.{NonePasses, IsAt, MayBeMarked, IsSnapshotRefusal, SuitsStatus}
 
 -- a batch within its limits has few entries, and what is new of it no more
 pub few_fresh : (bodies : Bodies) (es fs : List Entry) → fs ≡ not_held bodies es → NonePasses (BatchPasses es) → length fs ≤ 4096
 few_fresh bodies es fs is none =
     let few : length es ≤ objects_limit = le_unless (length es) objects_limit (λ many. none Objects (length es) (refl, many)) in
     omega (arith, few, length-fresh bodies es, ap length is)
-
--- before a limit come only limits
-a_limit : (other : No) (w : Which) (n : ℕ) → ComesBefore other (Limit w n) → ((rank other).0 ≡ 0) × ((rank other).1 < which_rank w)
-a_limit other w n (inl less) = absurd (omega (arith, less))
-a_limit other w n (inr (same, less)) = (same, less)
 
 no_limit : (h : List Event) (es : List Entry) → NonePasses (BatchPasses es) → NonePasses (FilePasses h (event_of (replay h) (wished.Batch es))) → (name : Name) (other : No) → ComesBefore other (Collision name) → BatchCause h es other → ⊥
 no_limit h es none files n (Limit v m) less (inl p) = none v m p
@@ -81,18 +75,6 @@ module _ (h : List Event) (by : ℕ) (origin : List ℕ) (number : ℕ) (status 
   abbrev Asked : Wish
   Asked = wished.Mark origin number status snapshot
 
-  mark_file_below : (w : Which) (n : ℕ) → IsFirstOf (FilePasses h Wanted) (w, n) → (other : No) → ComesBefore other (Limit w n) → MarkCause h by Wanted origin number status snapshot other → ⊥
-  mark_file_below w n first (Limit v m) less q = first.before_it v m (a_limit (Limit v m) w n less).1 q
-  mark_file_below w n first (NoVisit have) less is = let l = (a_limit (NoVisit have) w n less).0 in omega (arith, l)
-  mark_file_below w n first (NotYours other) less is = let l = (a_limit (NotYours other) w n less).0 in omega (arith, l)
-  mark_file_below w n first (Ended last) less is = let l = (a_limit (Ended last) w n less).0 in omega (arith, l)
-  mark_file_below w n first (NoSnapshot name) less is = let l = (a_limit (NoSnapshot name) w n less).0 in omega (arith, l)
-  mark_file_below w n first (NotClosed parent child) less is = let l = (a_limit (NotClosed parent child) w n less).0 in omega (arith, l)
-  mark_file_below w n first (Collision name) less is = let l = (a_limit (Collision name) w n less).0 in omega (arith, l)
-
-  pub mark_limited : (w : Which) (n : ℕ) → IsFirstOf (FilePasses h Wanted) (w, n) → IsVerdict h by Asked (Err (Limit w n))
-  mark_limited w n first = (first.passes, mark_file_below w n first)
-
   abbrev Visits : List Visit
   Visits = visits_of (replay h).origins origin
 
@@ -114,18 +96,6 @@ module _ (h : List Event) (by : ℕ) (origin : List ℕ) (number : ℕ) (status 
       let same : jd ≡ id = same_id snapshot jd id t s in
       let missing : body_of (replay h).bodies (snapshot_name id) ≡ None = ap (λ (k : List ℕ). body_of (replay h).bodies (snapshot_name k)) (sym same) ∙ ap (body_of (replay h).bodies) (sym is) ∙ none in
       let e = held.1 in let f : Some held.0 ≡ None = sym e ∙ missing in absurd (cc)
-
-  pub mark_visit_refused : Files → (no : No) → IsVisitRefusal Visits by number no → IsVerdict h by Asked (Err no)
-  mark_visit_refused files (NoVisit have) is =
-      (is, none_before h by Wanted origin number status snapshot (NoVisit have) refl files (λ l. absurd (omega (arith, l))) (λ l. absurd (omega (arith, l))) (λ l. absurd (omega (arith, l))) (λ l. absurd (omega (arith, l))) (λ l. absurd (omega (arith, l))))
-  mark_visit_refused files (NotYours other) (v, at, e, apart) =
-      ((v, at, e, apart), none_before h by Wanted origin number status snapshot (NotYours other) refl files (λ l. no_visit v at) (λ l. absurd (omega (arith, l))) (λ l. absurd (omega (arith, l))) (λ l. absurd (omega (arith, l))) (λ l. absurd (omega (arith, l))))
-  mark_visit_refused files (Ended last) (v, at, mine, e, final) =
-      ((v, at, e, final), none_before h by Wanted origin number status snapshot (Ended last) refl files (λ l. no_visit v at) (λ l. not_yours v at mine) (λ l. absurd (omega (arith, l))) (λ l. absurd (omega (arith, l))) (λ l. absurd (omega (arith, l))))
-  mark_visit_refused files (Limit w n) is = absurd is
-  mark_visit_refused files (NoSnapshot name) is = absurd is
-  mark_visit_refused files (NotClosed parent child) is = absurd is
-  mark_visit_refused files (Collision name) is = absurd is
 
   pub mark_snapshot_refused : Files → MayBeMarked Visits by number → (no : No) → IsSnapshotRefusal (replay h).bodies status snapshot no → IsVerdict h by Asked (Err no)
   mark_snapshot_refused files may (NoSnapshot name) is =

@@ -9,7 +9,7 @@ use Rattle.swh_base.specs.Directory.{DirectoryEntry}
 use Rattle.swh_dirfmt.specs.declared.entry.SpelledEntry.{SpelledEntry}
 use Rattle.swh_dirfmt.specs.Entries.{entry_of, entries_in_body}
 use Rattle.swh_pathwalk.specs.declared.walk.Level.{Level}
-use Rattle.swh_pathwalk.specs.Walk.{Coming, slash, coming_at, standing, AreNested, with_entries, IsEnded, IsPopped, GoesTo, ComesNext}
+use Rattle.swh_pathwalk.specs.Walk.{Coming, slash, coming_at, standing, AreNested, with_entries, IsEnded, GoesTo, ComesNext}
 
 -- those inside were taken, since nothing is to come of them
 pub record HavePopped (old now : List Level) : Type 0 where
@@ -24,9 +24,6 @@ all_push : (ls : List Level) (l : Level) → AllByRecursion IsEnded ls → IsEnd
 all_push [] l all is = (is, tt)
 all_push (x ∷ ls) l (first, all) is = (first, all_push ls l all is)
 
-pub popped_none : (old : List Level) → HavePopped old old
-popped_none old = record { ended = []; cut = refl; each = tt }
-
 -- one more was taken
 pub popped_more : (old now rest : List Level) (l : Level) → now ≡ rest ++ l ∷ [] → IsEnded l → HavePopped old now → HavePopped old rest
 popped_more old now rest l is end h = record {
@@ -34,18 +31,6 @@ popped_more old now rest l is end h = record {
   cut = h.cut ∙ ap (λ (x : List Level). h.ended ++ x) (ap (λ (x : List Level). reverse x) is ∙ reverse_push rest l) ∙ sym (append_assoc h.ended (l ∷ []) (reverse rest));
   each = all_push h.ended l h.each end;
 }
-
-pub popped_one : (old now rest : List Level) (l : Level) → now ≡ rest ++ l ∷ [] → l.next < length l.entries.items → HavePopped old now → IsPopped old l rest
-popped_one old now rest l is some h = record {
-  ended = h.ended;
-  cut = h.cut ∙ ap (λ (x : List Level). h.ended ++ x) (ap (λ (x : List Level). reverse x) is ∙ reverse_push rest l);
-  each = h.each;
-  some = some;
-}
-
-pub popped_all : (old now : List Level) → now ≡ [] → HavePopped old now → AllByRecursion IsEnded (reverse old)
-popped_all old now none h =
-    subst (AllByRecursion IsEnded) (sym (h.cut ∙ ap (λ (x : List Level). h.ended ++ reverse x) none ∙ append-nil h.ended)) h.each
 
 -- ---- what is seen of levels
 

@@ -34,10 +34,6 @@ in_cases : {X : Type 0} → (x : X) (xs : List X) (y : X) → Contains (x ∷ xs
 in_cases x xs y (zero, less, is) = inl is
 in_cases x xs y (suc k, less, is) = inr (k, omega (arith, less), is)
 
-total_append : {X : Type 0} (f : X → ℕ) (xs ys : List X) → total f (xs ++ ys) ≡ total f xs + total f ys
-total_append f [] ys = omega arith
-total_append f (x ∷ xs) ys = let rest = total_append f xs ys in omega (arith, rest)
-
 -- a value that is no greater on each has no greater sum
 total_same : {X : Type 0} (f g : X → ℕ) (xs : List X) → ((x : X) → Contains xs x → f x ≡ g x) → total f xs ≡ total g xs
 total_same f g [] same = refl

@@ -72,9 +72,6 @@ all_more a b es i e less is w there h =
 some_not_none : (x : List ℕ) (o : Option (List ℕ)) → o ≡ Some x → o ≡ None → ⊥
 some_not_none x o s n = cc
 
-pub splits_nothing : (b : Bodies) (es : List Entry) → Splits b es 0 [] None
-splits_nothing b es = record { fresh = refl; new = tt; some = tt; none = tt }
-
 -- one that is new
 splits-new : (b : Bodies) (es fs gs : List Entry) (i : ℕ) (e : Entry) (c : Option Name) → i < length es → e ≡ get_or es i e → Splits b es i fs c → TakesUp b fs gs e New → Splits b es (i + 1) gs c
 splits-new b es fs gs i e c less is s (none, put) =

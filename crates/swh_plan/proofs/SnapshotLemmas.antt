@@ -1,13 +1,9 @@
 -- What walks and certificates over a store say of its bodies.
-use Rattle.std.proofs.Common.{◌≡◌, ℕ, ◌<◌, Option, Some, List, [], refl, sym, subst, arith}
+use Rattle.std.proofs.Common.{◌≡◌, ℕ, ◌<◌, Option, Some, List, [], sym, subst, arith}
 use Rattle.swh_base.specs.declared.name.Name.{Name}
-use Rattle.swh_base.specs.declared.visit.Status.TheVariants.{Full}
 use Rattle.swh_base.specs.Reach.{IsClosedIn, AreClosedIn}
-use Rattle.swh_base.specs.Snapshot.{snapshot_name}
-use Rattle.swh_model.specs.declared.event.No.{No}
-use Rattle.swh_model.specs.declared.event.No.TheVariants.{Limit, NoVisit, NotYours, Ended, NoSnapshot, NotClosed, Collision}
-use Rattle.swh_model.specs.Archive.{Bodies, IsHeld, IsClosed, IsGraphOf}
-use Rattle.swh_model.specs.Judged.{IsSnapshotRefusal, SuitsStatus}
+use Rattle.swh_model.specs.declared.event.No.TheVariants.{NotClosed}
+use Rattle.swh_model.specs.Archive.{Bodies, IsClosed, IsGraphOf}
 use Rattle.swh_model.proofs.Graphs.{reaches-same, closed-same}
 use Rattle.swh_closure.specs.Certificate.{IsMissing, IsWalkFault}
 use Rattle.swh_closure.specs.declared.walking.WalkFault.{WalkFault}
@@ -41,20 +37,5 @@ pub child_missing : (bodies : Bodies) (children_of : Name → Option (List Name)
     → IsFullRefusal bodies root (NotClosed parent child)
 child_missing bodies children_of root parent child fault graph is why = gap_of bodies children_of root parent child graph (subst (IsWalkFault children_of root) is why)
 
-pub full_refused : (bodies : Bodies) (id : List ℕ) (no : No) → IsFullRefusal bodies (snapshot_name id) no → IsSnapshotRefusal bodies Full (Some id) no
-full_refused bodies id (NoSnapshot name) is = (id, refl, is.0, is.1)
-full_refused bodies id (NotClosed parent child) is = (refl, id, refl, is.0, is.1)
-full_refused bodies id (Limit w n) is = is
-full_refused bodies id (NoVisit have) is = is
-full_refused bodies id (NotYours by) is = is
-full_refused bodies id (Ended last) is = is
-full_refused bodies id (Collision name) is = is
-
 same_id : (a b : List ℕ) → Some a ≡ Some b → a ≡ b
 same_id a b e = cc
-
-pub full_suits : (bodies : Bodies) (id : List ℕ) → IsClosed bodies (snapshot_name id) → SuitsStatus bodies Full (Some id)
-full_suits bodies id closed = record {
-  held = λ k is. subst (λ (i : List ℕ). IsHeld bodies (snapshot_name i)) (same_id id k is) (closed (snapshot_name id) ([], refl));
-  closed = λ k is _. subst (λ (i : List ℕ). IsClosed bodies (snapshot_name i)) (same_id id k is) closed;
-}

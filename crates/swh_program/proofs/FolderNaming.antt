@@ -5,16 +5,13 @@ use Rattle.swh_base.specs.declared.kind.Kind.{Kind}
 use Rattle.swh_outside.specs.Files.{Files}
 use Rattle.swh_outside.specs.Folder.{Tree}
 use Rattle.swh_dirload.specs.declared.fault.DirFault.{DirFault}
-use Rattle.swh_dirload.specs.declared.fault.DirFault.TheVariants.{OtherKind, BadModes, Limit, ReadFault, Memory as OutOfMemory}
-use Rattle.swh_dirload.specs.May.{MayRefusePlain}
-use Rattle.swh_dirload.specs.Meaning.{BreaksFolder, ExplainsFolder}
 use Rattle.swh_dirload.specs.Root.{HasRoot}
 use Rattle.swh_dirload.proofs.OneFolder.{one_root, root_unbroken}
 use Rattle.swh_program.specs.Seen.{FileAt}
 use Rattle.swh_program.specs.Answers.{TellsDisk, TellsLine, status_of}
 use Rattle.swh_program.specs.Load.{Givens, LoadEnds}
 use Rattle.swh_program.specs.Run.{IsExactly}
-use Rattle.swh_program.specs.IdentifyFolderCommand.{directory_line, TellsFault, AnswersFault, HasNoDirectory, TellsFolder, FolderEnds, MayTell, IsFolderAnswer}
+use Rattle.swh_program.specs.IdentifyFolderCommand.{directory_line, TellsFault, AnswersFault, HasNoDirectory, TellsFolder, FolderEnds, IsFolderAnswer}
 use Rattle.swh_program.specs.declared.answer.Ending.{Ending}
 use Rattle.swh_program.specs.declared.answer.Ending.TheVariants as ending
 use Rattle.swh_program.specs.declared.answer.Answer.{Answer}
@@ -30,39 +27,6 @@ fault_told fault line Memory tells told = tt
 fault_told fault line _ tells told = absurd told
 
 module _ (id_of : Kind → List ℕ → List ℕ) where
-  -- a line is told of what stands at the path
-  pub told_folder : (found : Option Tree) (line : List ℕ) (end : Ending) (answer : Answer) → TellsFolder id_of found end line → TellsLine line end answer → FolderEnds id_of found answer
-  told_folder found line end (Told text e) tells told = subst (λ (f : Ending). TellsFolder id_of found f text) (sym told.1) (subst (TellsFolder id_of found end) (sym told.0) tells)
-  told_folder found line end Memory tells told = tt
-  told_folder found line end _ tells told = absurd told
-
-  -- and so is what may be told
-  pub may_be_told : (line : List ℕ) (end : Ending) (answer : Answer) → MayTell id_of end line → TellsLine line end answer → IsFolderAnswer id_of answer
-  may_be_told line end (Told text e) tells told = subst (λ (f : Ending). MayTell id_of f text) (sym told.1) (subst (MayTell id_of end) (sym told.0) tells)
-  may_be_told line end Memory tells told = tt
-  may_be_told line end _ tells told = absurd told
-
-  -- a fault that is told breaks the folder
-  told_breaks : (tree : Tree) (fault : DirFault) (text : List ℕ) → ExplainsFolder id_of tree [] fault → TellsFault fault text → BreaksFolder id_of tree [] fault
-  told_breaks tree (OtherKind path) text why tells = why
-  told_breaks tree (BadModes line) text why tells = absurd tells
-  told_breaks tree (Limit which number) text why tells = why
-  told_breaks tree ReadFault text why tells = absurd tells
-  told_breaks tree OutOfMemory text why tells = absurd tells
-
-  pub fault_ends : (tree : Tree) (fault : DirFault) (answer : Answer) → ExplainsFolder id_of tree [] fault → AnswersFault fault answer → FolderEnds id_of (Some tree) answer
-  fault_ends tree fault (Told text end) why a =
-      subst (λ (e : Ending). TellsFolder id_of (Some tree) e text) (sym a.0) (record { fault = fault; breaks = told_breaks tree fault text why a.1; tells = a.1 })
-  fault_ends tree fault OutsideFolder why a = tt
-  fault_ends tree fault Memory why a = tt
-  fault_ends tree fault _ why a = absurd a
-
-  pub fault_one : (fault : DirFault) (answer : Answer) → MayRefusePlain fault → AnswersFault fault answer → IsFolderAnswer id_of answer
-  fault_one fault (Told text end) may a = subst (λ (e : Ending). MayTell id_of e text) (sym a.0) (inr (record { fault = fault; may = may; tells = a.1 }))
-  fault_one fault OutsideFolder may a = tt
-  fault_one fault Memory may a = tt
-  fault_one fault _ may a = absurd a
-
   -- it is never refused for words, a job or an archive
   pub folder_statuses : (answer : Answer) → IsFolderAnswer id_of answer → (status_of answer < 2) ⊎ (4 ≤ status_of answer)
   folder_statuses (Told text end) is = told_status end

@@ -4,7 +4,6 @@ use Rattle.std.proofs.lemmas.List.{append-nil, append_cancel_left}
 use Rattle.swh_base.specs.declared.kind.Kind.{Kind}
 use Rattle.swh_outside.specs.Views.{Disks}
 use Rattle.swh_outside.specs.Files.{Files, FileCall, AreImages, files_done}
-use Rattle.swh_segment.specs.Makes.{ADiskFailed}
 use Rattle.swh_format.specs.EventRecord.{AreCodable}
 use Rattle.swh_segment.specs.Making.{barriers}
 use Rattle.swh_segment.specs.Settled.{seen_of}
@@ -27,17 +26,16 @@ use Rattle.swh_alone.proofs.Calls.{of_as}
 use Rattle.swh_loader.specs.declared.end.Loaded.{Loaded}
 use Rattle.swh_walk.specs.declared.end.LoadFault.{LoadFault}
 use Rattle.swh_pool.specs.Stops.{HaveNoDiskFault}
-use Rattle.swh_program.specs.Answers.{TellsDisk}
 use Rattle.swh_program.specs.Inputs.{loader}
 use Rattle.swh_program.specs.InTurn.{AreLoadsInTurn, IsNextOf}
 use Rattle.swh_program.specs.Opening.{IsArchive, IsOnlyOpened, IsOpenRefusal, OpenEnds}
-use Rattle.swh_program.specs.Lines.{LoadedJob, outcomes, ending_of_all, TellsLoad}
+use Rattle.swh_program.specs.Lines.{LoadedJob, outcomes, TellsLoad}
 use Rattle.swh_program.specs.Load.{Givens, VisitsStay, LeavesDisks, IsInDoubt, MakesRunCalls, IsLoad, IsLoadedOrNot, IsUnloaded}
 use Rattle.swh_program.specs.Loading.{IsUnstarted, AreKeptLoads, IsKeptRun}
 use Rattle.swh_program.specs.Damage.{IsUndamaged}
 use Rattle.swh_program.specs.declared.answer.Ending.TheVariants as ending
 use Rattle.swh_program.specs.declared.answer.Answer.{Answer}
-use Rattle.swh_program.specs.declared.answer.Answer.TheVariants.{Told, NotMade, Damaged, OutsideDisk, OutsideClock, Memory}
+use Rattle.swh_program.specs.declared.answer.Answer.TheVariants.{NotMade, Damaged, OutsideDisk, Memory}
 use Rattle.swh_program.proofs.Owned.{load_moments}
 use Rattle.swh_program.proofs.Shared.{all_numbered}
 use Rattle.swh_program.proofs.Turns.{all_own, all_behind, each_load, shared_in_turn, stops_in_turn}
@@ -57,15 +55,6 @@ module _ (id_of : Kind → List ℕ → List ℕ) (before more : List Event) (hi
 wounded_by : (w : Option ℕ) → (w ≡ None → ⊥) → (n : ℕ) × (w ≡ Some n)
 wounded_by (Some n) some = (n, refl)
 wounded_by None some = absurd (some refl)
-
--- an answer that tells of a disk tells loads of which one does
-told_disk : (loads : List LoadedJob) (answer : Answer) → TellsLoad loads answer → TellsDisk answer → ending_of_all (outcomes loads) ≡ ending.OutsideDisk
-told_disk loads (Told text end) told is = sym told.end_is ∙ is
-told_disk loads _ told is = absurd told
-
-not_disk : (answer : Answer) → IsUnstarted answer → TellsDisk answer → ⊥
-not_disk answer (inl clock) is = let f : OutsideClock ≡ OutsideDisk = subst TellsDisk clock is in cc
-not_disk answer (inr memory) is = let f : Memory ≡ OutsideDisk = subst TellsDisk memory is in cc
 
 -- lines are no damage, and nor is what stops them all
 undamaged_load : (loads : List LoadedJob) (answer : Answer) → TellsLoad loads answer → IsUndamaged answer
@@ -190,11 +179,6 @@ module _ {D : Type 0} (g : Givens) (disks : Disks D) where
   pub run_undamaged : (was now : Kept D) (jobs : List Job) (answer : Answer) → IsKeptRun g disks was now jobs answer → IsUndamaged answer
   run_undamaged was now jobs answer (inl run) = undamaged_load run.loads answer run.told
   run_undamaged was now jobs answer (inr none) = undamaged_start answer none.0
-
-  pub run_disk : (was now : Kept D) (jobs : List Job) (answer : Answer)
-      → IsKeptRun g disks was now jobs answer → TellsDisk answer → ADiskFailed (disks.faults was.store) (disks.faults now.store) (disks.faults was.ledger) (disks.faults now.ledger)
-  run_disk was now jobs answer (inl run) is = run.load.rose (told_disk run.loads answer run.told is)
-  run_disk was now jobs answer (inr none) is = absurd (not_disk answer none.0 is)
 
 pub refused_unloaded : (id_of : Kind → List ℕ → List ℕ) (tells : Type 0) (old new : Files) (answer : Answer) → IsOpenRefusal answer → (tells → OpenEnds id_of old new answer) → IsUnloaded id_of tells old new answer
 refused_unloaded id_of tells old new NotMade is ends = (tt, ends)

@@ -2,7 +2,7 @@
 use Rattle.std.specs.Prelude.{IfSome, option_map}
 use Rattle.std.proofs.Common.{◌≡◌, ℕ, ◌+◌, ◌<◌, ◌≤◌, Option, Some, None, List, [], ◌∷◌, ◌++◌, length, length-append, map, refl, sym, ap, ◌∙◌, subst, arith, append_assoc}
 use Rattle.std.specs.List.{AllByRecursion}
-use Rattle.std.proofs.lemmas.List.{append-nil, length-map, map-append}
+use Rattle.std.proofs.lemmas.List.{length-map, map-append}
 use Rattle.swh_base.specs.Text.{IsRef}
 use Rattle.swh_outside.specs.Faults.{Rose}
 use Rattle.swh_outside.specs.declared.fault.Opened.{Opened}
@@ -79,13 +79,6 @@ module _ {S F : Type 0} (p : Parts S F) where
   back_since a b c rises (Fast stream head) back = part_since p.sources.faults p.sources.path a b c rises stream back
   back_since a b c rises (Dir folder modes) back = (part_since p.folders.faults p.folders.path a b c rises folder back.0, listing_since a b c rises modes back.1)
   back_since a b c rises (Batch objects refs) back = (part_since p.sources.faults p.sources.path a b c rises objects back.0, part_since p.sources.faults p.sources.path a b c rises refs back.1)
-
-  -- one part after the other
-  pub folder_back : (a b c : List ℕ → ℕ) → ((q : List ℕ) → a q ≤ b q) → ((q : List ℕ) → b q ≤ c q) → (folder : Opened F) (modes : Option (Opened S)) → IsPartBack p.folders.faults p.folders.path a b folder → IsListingBack p b c modes → IsGivenBack p a c (Dir folder modes)
-  folder_back a b c early late folder modes first second = (part_until p.folders.faults p.folders.path a b c late folder first, listing_since a b c early modes second)
-
-  pub batch_back : (a b c : List ℕ → ℕ) → ((q : List ℕ) → a q ≤ b q) → ((q : List ℕ) → b q ≤ c q) → (objects refs : Opened S) → IsPartBack p.sources.faults p.sources.path a b objects → IsPartBack p.sources.faults p.sources.path b c refs → IsGivenBack p a c (Batch objects refs)
-  batch_back a b c early late objects refs first second = (part_until p.sources.faults p.sources.path a b c late objects first, part_since p.sources.faults p.sources.path a b c early refs second)
 
   back_all_until : (a b c : List ℕ → ℕ) → ((q : List ℕ) → b q ≤ c q) → (jobs : List (DatedJob S F)) → AreGivenBack p a b jobs → AreGivenBack p a c jobs
   back_all_until a b c rises [] back = tt
@@ -166,13 +159,6 @@ module _ {S F : Type 0} (p : Parts S F) (tell : Type 0) where
     job_within : (job : Job) (j : DatedJob S F) → OpenedJob b c job j → OpenedJob a d job j
     job_within job j is = record { origin = is.origin; told = is.told; input = input_within job.input j.job.input is.input }
 
-  -- one part after the other
-  pub dir_opened : (a b c : Origins) → IsKept tell a b → IsKept tell b c → (path : List ℕ) (modes : Option (List ℕ)) (folder : Opened F) (listing : Option (Opened S)) → IsFolderAt p (between tell a b) path folder → IsListingAt p (between tell b c) modes listing → OpenedAt a c (FolderIn path modes) (Dir folder listing)
-  dir_opened a b c first second path modes folder listing x y = (folder_within a a b c (kept_same tell a) second.path_later path folder x, listing_within a b c c first (λ q. omega arith) modes listing y)
-
-  pub batch_opened : (a b c : Origins) → IsKept tell a b → IsKept tell b c → (path refs : List ℕ) (objects others : Opened S) → IsSourceAt p (between tell a b) path objects → IsSourceAt p (between tell b c) refs others → OpenedAt a c (BatchAt path refs) (Batch objects others)
-  batch_opened a b c first second path refs objects others x y = (source_within a a b c (kept_same tell a) second.path_later path objects x, source_within a b c c first (λ q. omega arith) refs others y)
-
   jobs_within : (a c d : Origins) → ((q : List ℕ) → c.path_faults q ≤ d.path_faults q) → (jobs : List Job) (opened : List (DatedJob S F)) → OpenedJobs a c jobs opened → OpenedJobs a d jobs opened
   jobs_within a c d late [] [] are = tt
   jobs_within a c d late [] (o ∷ opened) are = absurd are
@@ -216,7 +202,3 @@ module _ {S F : Type 0} (p : Parts S F) (tell : Type 0) where
     are = subst (λ (jobs : List Job). OpenedJobs a c jobs (opened ++ o ∷ [])) (sym (map-append job_of so_far.done (line ∷ [])))
         (jobs_more a c (owned_jobs so_far.done) opened (job_of line) o (jobs_within a b c late.path_later (owned_jobs so_far.done) opened so_far.are) (job_within a b c c early (λ q. omega arith) (job_of line) o is));
   }
-
-  pub opened_ends : (before now : Origins) (lines rest : List JobLine) (opened : List (DatedJob S F)) → rest ≡ [] → OpenedSoFar before now lines rest opened → OpenedJobs before now (owned_jobs lines) opened
-  opened_ends before now lines rest opened none so_far =
-      subst (λ (l : List JobLine). OpenedJobs before now (owned_jobs l) opened) (sym (so_far.cut ∙ ap (λ (l : List JobLine). so_far.done ++ l) none ∙ append-nil so_far.done)) so_far.are

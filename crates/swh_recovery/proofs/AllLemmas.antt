@@ -1,6 +1,5 @@
 -- What is read of both files in the end.
-use Rattle.std.proofs.Common.{◌≡◌, ℕ, ◌<◌, ◌≤◌, List, [], ◌++◌, length, drop, sym, ap, subst, inl, inr, arith, length-append}
-use Rattle.std.specs.Global.{Vec}
+use Rattle.std.proofs.Common.{◌≡◌, ℕ, ◌<◌, ◌≤◌, List, [], ◌++◌, length, drop, sym, ap, subst, inr, arith, length-append}
 use Rattle.swh_base.specs.declared.kind.Kind.{Kind}
 use Rattle.swh_base.specs.Limits.{file_limit}
 use Rattle.swh_format.specs.Record.{magic}
@@ -11,7 +10,6 @@ use Rattle.swh_recovery.specs.declared.fault.NextFault.{NextFault}
 use Rattle.swh_recovery.specs.declared.fault.NextFault.TheVariants as next
 use Rattle.swh_model.specs.declared.event.Event.{Event}
 use Rattle.swh_recovery.specs.declared.reading.Reached.{Reached}
-use Rattle.swh_recovery.specs.Harms.{MagicBreaks}
 use Rattle.swh_recovery.specs.Records.{IfNextHarmed, HasRuns, IsReadSoFar, IsInside, BreaksNext, IsAtEnd, AreWhole, IsHarm}
 use Rattle.swh_recovery.specs.Answers.{all_fault, IfDamaged}
 
@@ -47,17 +45,6 @@ pub harmed_whole : (id_of : Kind → List ℕ → List ℕ) (fault : NextFault) 
 harmed_whole id_of next.DiskFailed old new same whole = tt
 harmed_whole id_of next.Memory old new same whole = tt
 harmed_whole id_of (next.Harmed file found) old new same whole = subst (λ (r : Reached). AreWhole id_of r.events.items) (sym same) whole
-
-pub fault_whole : (id_of : Kind → List ℕ → List ℕ) (fault : NextFault) (before : Vec Event) → before.items ≡ [] → IfDamaged (all_fault fault before) (λ _ _ _ rs. AreWhole id_of rs)
-fault_whole id_of next.DiskFailed before none = tt
-fault_whole id_of next.Memory before none = tt
-fault_whole id_of (next.Harmed file found) before none = none_whole id_of before.items none
-
-pub all_harmed : (id_of : Kind → List ℕ → List ℕ) (ledger store : List ℕ) (fault : NextFault) (before : Vec Event)
-    → IfNextHarmed fault (λ file found. MagicBreaks ledger file found × (before.items ≡ [])) → IfDamaged (all_fault fault before) (IsHarm id_of ledger store)
-all_harmed id_of ledger store next.DiskFailed before h = tt
-all_harmed id_of ledger store next.Memory before h = tt
-all_harmed id_of ledger store (next.Harmed file found) before h = inl h
 
 pub next_harmed : (id_of : Kind → List ℕ → List ℕ) (ledger store : List ℕ) (fault : NextFault) (r : Reached) → IfNextHarmed fault (BreaksNext id_of ledger store r) → IfDamaged (all_fault fault r.events) (IsHarm id_of ledger store)
 next_harmed id_of ledger store next.DiskFailed r h = tt

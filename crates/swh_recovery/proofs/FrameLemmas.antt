@@ -32,9 +32,6 @@ frame_fits bytes p at f inside =
     let all : length bytes ≡ length (p.kind ∷ (to_be_bytes w32 (length p.payload.now) ++ (p.payload.now ++ p.rest.now))) = ap length (f.front.spelled ∙ framed_then p.kind p.payload.now p.rest.now) in
     omega (arith, inside, all, length-append (to_be_bytes w32 (length p.payload.now)) (p.payload.now ++ p.rest.now), length-append p.payload.now p.rest.now, four_bytes (length p.payload.now))
 
-pub frame_then : (bytes : List ℕ) (at : ℕ) (found : Found) → FrameBreaks bytes at found → RecordBreaks bytes at found
-frame_then bytes at found h = elim h [ inl x ↦ inl x | inr x ↦ inr (inl x) ]
-
 pub fields_then : (bytes : List ℕ) (p : RecordParts) (at : ℕ) (found : Found) → IsFrame bytes p → FieldsBreak (payload_fields p.kind) p.payload.now (at + 5) found → RecordBreaks bytes at found
 fields_then bytes p at found f breaks = inr (inr (record {
   frame = record { kind = p.kind; payload = p.payload.now; rest = p.rest.now; spelled = f.front.spelled; is_kind = f.is_kind; fits = f.front.short };

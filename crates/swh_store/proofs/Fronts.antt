@@ -21,14 +21,6 @@ all-front P (suc count) (x ∷ xs) h = (h.0, all-front P count xs h.1)
 
 -- ---- how many are new
 
-pub all_fresh : (es : List Entry) (count : ℕ) → count ≡ length es → AreNew finite.empty (take count es) → AreFresh es count
-all_fresh es count all new =
-    record {
-      inside = omega (arith, all);
-      new = new;
-      most = λ more past within _. absurd (omega (arith, all, past, within));
-    }
-
 -- of a longer front that is new the shorter one is new
 pub new-shorter : (es : List Entry) (count more : ℕ) → count ≤ more → AreNew finite.empty (take more es) → AreNew finite.empty (take count es)
 new-shorter es count more within new =

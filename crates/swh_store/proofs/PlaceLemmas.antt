@@ -81,9 +81,6 @@ stays_free old new n step stay free = by_mark (mark_behind old n step) refl
 pub stay_twice : (a b c : List ℕ) → MarksStay a b → MarksStay b c → MarksStay a c
 stay_twice a b c first second = record { many = second.many ∙ first.many; each = λ slot place led. second.each slot place (first.each slot place led) }
 
-pub stay-same : (a : List ℕ) → MarksStay a a
-stay-same a = record { many = refl; each = λ slot place led. led }
-
 -- slots that were taken are taken still
 pub taken-stay : (old new : List ℕ) (n : Name) (count : ℕ) → MarksStay old new → AreTaken old n count → AreTaken new n count
 taken-stay old new n count stay taken step less free = taken step less (stays_free old new n step stay free)

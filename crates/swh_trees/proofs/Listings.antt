@@ -1,7 +1,7 @@
 -- The entries of a folder's directory, and their ids and objects.
 use Rattle.std.proofs.Common.{◌≡◌, ◌≢◌, ℕ, suc, ◌+◌, ◌<◌, ◌≤◌, true, List, [], ◌∷◌, ◌++◌, length, drop, get_or, refl, sym, ap, subst, ◌∙◌, inl, inr, arith, add-one, append_assoc}
 use Rattle.std.proofs.lemmas.Bool.{cases_lt}
-use Rattle.std.proofs.lemmas.List.{get_or_append_left, length-append, append-nil}
+use Rattle.std.proofs.lemmas.List.{get_or_append_left, length-append}
 use Rattle.std.proofs.Math.Seq.{get_or-append_seam}
 use Rattle.std.specs.Ordering.{nat_cmp}
 use Rattle.std.specs.declared.cmp.Ordering.TheVariants.{Less}
@@ -100,9 +100,6 @@ objects-push id_of entries_at from [] o h own = let e : from + 0 ≡ from = omeg
 objects-push id_of entries_at from (p ∷ os) o h own =
     let e : from + suc (length os) ≡ suc from + length os = omega arith in
     (h.0, objects-push id_of entries_at (suc from) os o h.1 (subst (λ (n : ℕ). IsDirectoryObject id_of (entries_at n) o) e own))
-
-pub goes-none : (xs : List (List ℕ)) → GoesOn xs xs
-goes-none xs = record { more = []; is = sym (append-nil xs) }
 
 pub goes-on : (xs ys zs : List (List ℕ)) → GoesOn xs ys → GoesOn ys zs → GoesOn xs zs
 goes-on xs ys zs a b = record { more = a.more ++ b.more; is = b.is ∙ ap (λ (l : List (List ℕ)). l ++ b.more) a.is ∙ append_assoc xs a.more b.more }

@@ -27,13 +27,13 @@ use Rattle.swh_folders.specs.declared.opened.Opened.{Opened}
 use Rattle.swh_folders.specs.declared.opened.Start.{Start}
 use Rattle.swh_folders.specs.declared.opened.Start.TheVariants.{At, In}
 use Rattle.swh_folders.specs.Opened.{open_forest, start_map, number_of_start, IsOpened, IsStart}
-use Rattle.swh_trees.specs.Held.{AreIds, IsEmptyFolder, MayBeOpened, IsHeld, first_values, count_with, grove, start_with, opened_of, kept_number, kept_empty}
+use Rattle.swh_trees.specs.Held.{AreIds, IsEmptyFolder, MayBeOpened, first_values, count_with, grove, start_with, opened_of, kept_number}
 use Rattle.swh_folders.specs.Live.{IsPart}
 use Rattle.swh_trees.specs.Makes.{IsFolderOf, IsNumbered, Makes, ExplainsTree}
 use Rattle.swh_trees.specs.Objects.{IsDirectoryObject, AreDirectoryObjects, ExplainsPart}
 use Rattle.swh_folders.specs.PathMap.{PathMap, same, leaf_at, held, HasFolder}
 use Rattle.swh_folders.specs.Sound.{IsSound, IsSoundHere}
-use Rattle.swh_folders.specs.Working.{AreFolders, count_of, folder_at, root_map, IsTallied, StaysBelow}
+use Rattle.swh_folders.specs.Working.{AreFolders, count_of, folder_at, root_map, StaysBelow}
 use Rattle.swh_folders.proofs.Arenas.{tree-node, entries-low}
 use Rattle.swh_folders.proofs.Canonical.{own-leaf}
 use Rattle.swh_folders.proofs.Flats.{HavePaths, paths-flat, flat-some}
@@ -250,16 +250,6 @@ pub bare-stays : (x y : ℕ → Forest) (n : ℕ) (empty : Option ℕ) → ((j :
 bare-stays x y n None stay h = tt
 bare-stays x y n (Some k) stay h = (h.0, stay k h.0 ∙ h.1)
 
-pub held-stays : (id_of : Kind → List ℕ → List ℕ) (a b : Folders) (opened opened' : Option Opened) (ids : List (List ℕ)) (empty : Option ℕ) → MayBeOpened b.names.items b.nodes.items opened' → IsHeld id_of a opened ids empty → StaysBelow (length ids) a b → IsTallied (length ids) b → IsHeld id_of b opened' ids empty
-held-stays id_of a b opened opened' ids empty o h s t = record {
-  good = s.good;
-  opens = o;
-  within = s.long;
-  known = λ j lt. h.known j lt ∙ ap (λ (f : Forest). directory_id id_of (directory (directory_id id_of) f)) (sym (s.stay j lt));
-  no_files = bare-stays (folder_at a) (folder_at b) (length ids) empty s.stay h.no_files;
-  tallied = t;
-}
-
 pub root_is : (f : Folders) (root : Option ℕ) → root_map f root ≡ flat (root_forest (folder_at f) root)
 root_is f None = refl
 root_is f (Some n) = refl
@@ -334,11 +324,6 @@ explained id_of a root f (TooLong len) s is h =
     let good : IsSound h.0 = part-sound (IsFolder f) h.0 s part in
     let long = h.2 ∙ ap (λ (es : List DirectoryEntry). length (directory_text es)) (sym (directory-of id_of h.0 good) ∙ ap (directory_of id_of) (sym has.1)) in
     subst (λ (x : PathMap). ExplainsTree id_of x (TooLong len)) map_is (part.path, has.0, long, h.3)
-
-pub empty-kept : (a b d : Folders) (ids ids' : List (List ℕ)) (root empty : Option ℕ) (r number : ℕ) → StaysBelow (length ids) a b → StaysBelow (length ids) b d → folder_at b r ≡ root_forest (folder_at a) root → folder_at d number ≡ folder_at b r → number < length ids' → length ids ≤ length ids' → IsEmptyFolder (folder_at a) (length ids) empty → IsEmptyFolder (folder_at d) (length ids') (kept_empty root empty number)
-empty-kept a b d ids ids' None empty r number s t is same lt le h = (lt, same ∙ is)
-empty-kept a b d ids ids' (Some n) None r number s t is same lt le h = tt
-empty-kept a b d ids ids' (Some n) (Some k) r number s t is same lt le h = let low = h.0 in (omega arith, t.stay k low ∙ s.stay k low ∙ h.1)
 
 pub on-err : {A E P : Type 0} (r : Result A E) → P → OnErr r P
 on-err (Ok x) p = tt

@@ -1,7 +1,6 @@
 -- The map of visits by origins as the finite map of the archive.
-use Rattle.std.proofs.Common.{◌≡◌, inl, inr, ℕ, ◌-◌, Bool, true, false, cond, Option, Some, None, List, [], ◌∷◌, map, unwrap_or, refl, sym, ap, ◌∙◌, subst, arith}
+use Rattle.std.proofs.Common.{◌≡◌, ℕ, ◌-◌, Bool, true, false, cond, Option, Some, None, List, [], ◌∷◌, map, unwrap_or, refl, sym, ap, ◌∙◌, subst}
 use Rattle.std.specs.Prelude.{IsSome}
-use Rattle.std.proofs.lemmas.Option.{slice_get_within}
 use Rattle.std.specs.Option.{option_map}
 use Rattle.std.specs.Global.{Vec}
 use Rattle.std.specs.Map.{lookup, set_value}
@@ -16,10 +15,7 @@ use Rattle.swh_model.specs.declared.event.Visit.{Visit}
 use Rattle.swh_model.specs.Archive.{Origins, visits_of}
 use Rattle.swh_model.specs.Step.{marked, marked_at}
 use Rattle.swh_base.specs.declared.visit.Status.{Status}
-use Rattle.swh_base.specs.Visit.{IsFinal, last_status}
-use Rattle.swh_visits.specs.declared.fault.VisitFault.{VisitFault}
-use Rattle.swh_visits.specs.declared.fault.VisitFault.TheVariants.{NoVisit, NotYours, Ended, Memory}
-use Rattle.swh_visits.specs.Visits.{with_visits, origins_of, MayBeMarked, IsRefusal}
+use Rattle.swh_visits.specs.Visits.{with_visits, origins_of}
 
 abbrev R : List ℕ → List ℕ → Ordering
 R = slice_cmp nat_cmp
@@ -167,14 +163,3 @@ module _ (seen : Origins) (es : Kept) (url origin : List ℕ) (view_is : origins
 
 same_of_some : (v w : Visit) → Some v ≡ Some w → v ≡ w
 same_of_some v w e = cc
-
--- where something stands against a status, the visit may not be marked
-pub refused_unmarked : (vs : List Visit) (by number : ℕ) (fault : VisitFault) → IsRefusal vs by number fault → MayBeMarked vs by number → ⊥
-refused_unmarked vs by number (NoVisit have) (is, inl none) may = let some = may.there.0 in omega (arith, none, some)
-refused_unmarked vs by number (NoVisit have) (is, inr beyond) may =
-    let less = slice_get_within vs (number - 1) may.visit may.there.1 in omega (arith, less, beyond, is)
-refused_unmarked vs by number (NotYours other) (v, there, is, apart) may =
-    apart (ap (λ (w : Visit). w.by) (same_of_some v may.visit (sym there.1 ∙ may.there.1)) ∙ may.opened)
-refused_unmarked vs by number (Ended last) (v, there, own, is, final) may =
-    may.unended (subst (λ (w : Visit). IsFinal (last_status w.statuses)) (same_of_some v may.visit (sym there.1 ∙ may.there.1)) (subst IsFinal is final))
-refused_unmarked vs by number Memory is may = is

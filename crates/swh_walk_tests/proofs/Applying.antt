@@ -39,9 +39,6 @@ module _ {D : Type 0} (id : Kind → List ℕ → List ℕ) (disks : Disks D) wh
       append_none [] = refl
       append_none (x ∷ h) = ap (λ (t : List Event). x ∷ t) (append_none h)
 
-  pub looks_among : (a b : Kept D) → AddsOn id disks [] a b → AddsAmong id [] a b
-  looks_among = looked
-
   -- the other loader's plan was carried out, or refused
   pub others_one : (wish : Wish) (a b : Kept D) (outcome : Outcome) → CarriesOut id (alone_words id disks 1) wish a b outcome → IsOthers id a b
   others_one wish a b outcome c =

@@ -1,6 +1,6 @@
 -- The program's definition: it is put together a subcommand at a time, and clap's clauses on simple commands hold of it.
 use Rattle.std.proofs.Common.{◌≡◌, ◌∙◌, true, refl, ap, ap₂}
-use Rattle.clap.specs.Words.{AddsSubcommand, App, is_simple, is_simple_and_free, with_subcommand}
+use Rattle.clap.specs.Words.{AddsSubcommand, App, is_simple, with_subcommand}
 use Rattle.clap.specs.declared.Command.{Command}
 use Rattle.clap.proofs.OnLiterals.{clap_on_literals}
 use Rattle.swh_words.specs.Definition.{IsDefinedAs, program_app}
@@ -14,7 +14,3 @@ joined old sub new a b adds of_old of_sub = record {
 pub program_is_simple : is_simple program_app ≡ true
 unfolding clap_on_literals
 program_is_simple = refl
-
-pub program_is_free : is_simple_and_free program_app ≡ true
-unfolding clap_on_literals
-program_is_free = refl
