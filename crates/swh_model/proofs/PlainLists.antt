@@ -14,7 +14,7 @@ use Rattle.std.proofs.lemmas.List.{take_more}
 use Rattle.swh_base.specs.declared.name.Name.{Name}
 use Rattle.swh_base.specs.declared.entry.Entry.{Entry}
 use Rattle.swh_model.specs.declared.event.Visit.{Visit}
-use Rattle.swh_model.specs.declared.state.VisitedOrigin.{VisitedOrigin}
+use Rattle.swh_model.specs.declared.origins.VisitedOrigin.{VisitedOrigin}
 use Rattle.swh_model.specs.Archive.{Bodies, body_of, visits_of}
 use Rattle.swh_model.specs.Step.{HasItsChildren, added}
 use Rattle.swh_model.specs.Walk.{IsEntryOf}

@@ -20,11 +20,12 @@ use Rattle.swh_model.specs.declared.event.No.{No}
 use Rattle.swh_model.specs.declared.event.No.TheVariants.{Limit, NoVisit, NotYours, Ended, NoSnapshot, NotClosed}
 use Rattle.swh_model.specs.Archive.{Bodies, body_of, IsHeld, visits_of, IsChild, IsWalk, Reaches}
 use Rattle.swh_base.specs.Limits.{body_limit, objects_limit, bytes_limit}
-use Rattle.swh_model.specs.Limits.{bytes_before_last}
+use Rattle.swh_model.specs.Limits.{bytes_before_last, IsWithinLimits}
 use Rattle.swh_model.specs.Step.{replay, HasItsChildrenAndName, AreNew, FitsStatus, May_kind, MayMark, MayAdd}
 use Rattle.swh_base.specs.Snapshot.{snapshot_name}
 use Rattle.swh_base.specs.Visit.{last_status}
-use Rattle.swh_model.specs.Judge.{not_held, event_of, first_long, IsThere, IsCause, IsWish, StatusAllows, MarkCause, BatchCause}
+use Rattle.swh_model.specs.Judge.{not_held, event_of, first_long, IsThere, IsCause, IsWish, StatusAllows, MarkCause, BatchCause, BatchPasses}
+use Rattle.swh_model.specs.Judged.{NonePasses}
 use Rattle.swh_model.proofs.Walks.{reaches-next}
 
 -- what is held or not
@@ -116,16 +117,41 @@ closed_unless bodies root each (next ∷ names) from n reach held walk =
     closed_unless bodies root each names next n (reaches-next bodies reach.0 root from next reach.1 walk.0)
     (held_unless bodies next (λ none. each from next reach walk.0 none)) walk.1
 
+-- ---- a batch within the limits
+
+-- where each body is short, none is long
+none_long : (es : List Entry) (n : ℕ) → AllByRecursion (λ (e : Entry). length e.body ≤ body_limit) es → first_long es ≡ Some n → ⊥
+none_long [] n short long = let f : None ≡ Some n = long in cc
+none_long (e ∷ es) n short long =
+    elim (nat_lt body_limit (length e.body)) as (λ t. nat_lt body_limit (length e.body) ≡ t → cond t (Some (length e.body)) (first_long es) ≡ Some n → ⊥) [
+      | true ↦ λ is _. let s = short.0 in absurd (grind (arith, s))
+      | false ↦ λ is rest. none_long es n short.1 rest
+    ] refl long
+
+pub within_unless : (es : List Entry) → NonePasses (BatchPasses es) → IsWithinLimits es
+within_unless es none = record {
+  bodies = short_unless es (none Body);
+  objects = le_unless (length es) objects_limit (λ many. none Objects (length es) (refl, many));
+  bytes = le_unless (bytes_before_last es) bytes_limit (λ many. none Bytes (bytes_before_last es) (refl, many));
+}
+
+pub none_passes : (es : List Entry) → IsWithinLimits es → NonePasses (BatchPasses es)
+none_passes es within Body n long = none_long es n within.bodies long
+none_passes es within Objects n many = let few = within.objects in let is = many.0 in let more = many.1 in absurd (omega (arith, few, is, more))
+none_passes es within Bytes n many = let few = within.bytes in let is = many.0 in let more = many.1 in absurd (omega (arith, few, is, more))
+none_passes es within _ n passes = absurd passes
+
 batch_may : (id_of : Kind → List ℕ → List ℕ) (h : List Event) (by : ℕ) (entries : List Entry) → AllByRecursion (HasItsChildrenAndName id_of) entries
     → ((cause : No) → BatchCause h entries cause → ⊥) → MayAdd id_of (replay h).bodies (not_held (replay h).bodies entries)
 batch_may id_of h by entries good none =
     let bodies = (replay h).bodies in
+    let within = within_unless entries (λ which n passes. none (Limit which n) (inl passes)) in
     record {
       good = fresh-all (HasItsChildrenAndName id_of) bodies entries good;
       limits = record {
-        bodies = fresh-all _ bodies entries (short_unless entries (λ n long. none (Limit Body n) (inl long)));
-        objects = let few = le_unless (length entries) objects_limit (λ many. none (Limit Objects (length entries)) (inl (refl, many))) in let l = length-fresh bodies entries in omega (arith, few, l);
-        bytes = let few = le_unless (bytes_before_last entries) bytes_limit (λ many. none (Limit Bytes (bytes_before_last entries)) (inl (refl, many))) in let l = bytes-fresh bodies entries in omega (arith, few, l);
+        bodies = fresh-all _ bodies entries within.bodies;
+        objects = let few = within.objects in let l = length-fresh bodies entries in omega (arith, few, l);
+        bytes = let few = within.bytes in let l = bytes-fresh bodies entries in omega (arith, few, l);
       };
       new = fresh-new bodies entries;
     }

@@ -6,7 +6,7 @@ use Rattle.swh_base.specs.contracts.name.Name as a_name
 use Rattle.swh_base.specs.declared.entry.Entry.{Entry}
 use Rattle.swh_model.specs.contracts.event.Visit as a_visit
 use Rattle.swh_model.specs.declared.event.Visit.{Visit}
-use Rattle.swh_model.specs.declared.state.VisitedOrigin.{VisitedOrigin}
+use Rattle.swh_model.specs.declared.origins.VisitedOrigin.{VisitedOrigin}
 use Rattle.swh_model.specs.Archive.{Archive, Bodies, Origins}
 use Rattle.swh_model.specs.Step.{added}
 

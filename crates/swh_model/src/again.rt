@@ -3,7 +3,7 @@ ghost use Rattle.std.specs.Prelude.{◌≡◌, IfOk};
 
 use crate::event::{Event, EventKind, Visit};
 use std::alloc::Global;
-use swh_base::{Entry, Items, Memory, Status};
+use swh_base::{Entry, Items, Memory};
 
 /// Equal entries, which share bodies and children.
 pub fn entries_again(alloc: Global, entries: &[Entry]) -> Result<Vec<Entry>, Memory>
@@ -17,23 +17,11 @@ pub fn entries_again(alloc: Global, entries: &[Entry]) -> Result<Vec<Entry>, Mem
     Ok(copies)
 }
 
-fn statuses_again(
-    alloc: Global,
-    statuses: &[(Status, Option<[u8; 20]>)],
-) -> Result<Vec<(Status, Option<[u8; 20]>)>, Memory>
-    ensures { IfOk result (λ copies. copies.items ≡ statuses.now) }
-{
-    let mut copies = Vec::new(alloc);
-    for status in statuses {
-        copies.push(*status)?;
-    }
-    Ok(copies)
-}
-
 fn visit_again(alloc: Global, visit: &Visit) -> Result<Visit, Memory>
     ensures { IfOk result (λ copy. copy ≡ visit.now) }
 {
-    let statuses = statuses_again(alloc, visit.statuses.as_slice())?;
+    let mut statuses = Vec::new(alloc);
+    statuses.extend_from_slice(visit.statuses.as_slice())?;
     Ok(Visit {
         number: visit.number,
         date: visit.date,

@@ -1,19 +1,11 @@
 //! The archive as a value, over plain lists that are read from end to end.
-use crate::again::{entries_again, visits_again};
+use crate::again::entries_again;
 use crate::event::{Event, EventKind, Visit};
-use crate::marking::push_status;
 use crate::names::is_same_name;
-use crate::opening::push_opened;
+use crate::origins::{VisitedOrigin, mark_in, open_in, origins_again, visits_in};
 use std::alloc::Global;
 use std::marker::Model;
-use swh_base::{Entry, Memory, Name, Status, Url, VisitKind};
-
-/// An origin that was opened, and its visits, the oldest first.
-#[derive(Drop)]
-struct VisitedOrigin {
-    origin: Url,
-    visits: Vec<Visit>,
-}
+use swh_base::{Entry, Memory, Name, Url};
 
 /// An archive: the bodies by their names, and the visits by their origins. Contracts see the two finite maps.
 #[derive(Drop)]
@@ -37,30 +29,10 @@ impl Model for State {
     ghost invariant = { λ s. All HasItsChildren s.entries.items };
 }
 
-ghost use Rattle.std.specs.Prelude.{
-  ◌≡◌,
-  ◌↔◌,
-  ◌++◌,
-  ◌<◌,
-  ◌≤◌,
-  None,
-  All,
-  Contains,
-  IsTrue,
-  IfOk,
-  IfSome,
-  IfNone,
-  OnOk,
-  length,
-  map,
-};
+ghost use Rattle.std.specs.Prelude.{◌≡◌, ◌++◌, All, Contains, IfSome, IfNone, OnOk};
 ghost use Rattle.std.specs.List.{AllByRecursion};
-ghost use Rattle.std.specs.FinMap.{find};
-ghost use Rattle.std.specs.Ordering.{nat_cmp};
-ghost use Rattle.std.specs.Cmp.Lexicographic.{slice_cmp};
-ghost use Rattle.swh_model.specs.Archive.{Bodies, body_of, visits_of};
-ghost use Rattle.swh_model.specs.Step.{HasItsChildren, added, opened, marked};
-ghost use Rattle.swh_model.specs.State.{origins_in, with_visits, IsPlaceOf};
+ghost use Rattle.swh_model.specs.Archive.{Bodies, body_of};
+ghost use Rattle.swh_model.specs.Step.{HasItsChildren, added};
 
 /// The newest entry with this name.
 pub fn newest<'a>(entries: &'a [Entry], name: &Name) -> Option<&'a Entry>
@@ -92,94 +64,6 @@ fn add_in(entries: &mut Vec<Entry>, batch: &[Entry]) -> Result<(), Memory>
         entries.push(entry.again()?)?;
     }
     Ok(())
-}
-
-fn is_same_origin(a: &Url, b: &Url) -> bool
-    ensures { IsTrue result ↔ (a.now ≡ b.now) }
-{
-    a.as_str().as_bytes() == b.as_str().as_bytes()
-}
-
-/// Where the origin stands.
-fn place_of(origins: &[VisitedOrigin], origin: &Url) -> Option<usize>
-    ensures some { IfSome result (IsPlaceOf origin.now origins.now) }
-    ensures within { IfSome result (λ place. place < length origins.now) }
-    ensures none { IfNone result (find (slice_cmp nat_cmp) origin.now (map with_visits origins.now) ≡ None) }
-{
-    for (place, visited) in origins.iter().enumerate() {
-        if is_same_origin(&visited.origin, origin) {
-            return Some(place);
-        }
-    }
-    None
-}
-
-fn visits_in<'a>(origins: &'a [VisitedOrigin], origin: &Url) -> &'a [Visit]
-    ensures { result.now ≡ visits_of (origins_in origins.now) origin.now }
-{
-    match place_of(origins, origin) {
-        Some(place) => origins[place].visits.as_slice(),
-        None => &[],
-    }
-}
-
-fn open_in(
-    alloc: Global,
-    origins: &mut Vec<VisitedOrigin>,
-    origin: &Url,
-    by: u32,
-    kind: VisitKind,
-    date: u64,
-) -> Result<(), Memory>
-    ensures { OnOk result (origins_in origins.new.items ≡ opened (origins_in origins.old.items) origin.now by kind date) }
-{
-    match place_of(origins, origin) {
-        Some(place) => push_opened(alloc, &mut origins[place].visits, by, kind, date),
-        None => {
-            let mut visits = Vec::new(alloc);
-            push_opened(alloc, &mut visits, by, kind, date)?;
-            let origin = origin.again(alloc)?;
-            origins.push(VisitedOrigin { origin, visits })?;
-            Ok(())
-        }
-    }
-}
-
-fn mark_in(
-    origins: &mut Vec<VisitedOrigin>,
-    origin: &Url,
-    visit: u64,
-    status: Status,
-    snapshot: Option<[u8; 20]>,
-) -> Result<(), Memory>
-    requires positive { 0 < visit }
-    requires there { visit ≤ length (visits_of (origins_in origins.old.items) origin.now) }
-    ensures { OnOk result (origins_in origins.new.items
-        ≡ marked (origins_in origins.old.items) origin.now visit status snapshot) }
-{
-    match place_of(origins, origin) {
-        Some(place) => {
-            push_status(
-                &mut origins[place].visits,
-                (visit - 1) as usize,
-                status,
-                snapshot,
-            )
-        }
-        None => unreachable!(),
-    }
-}
-
-fn origins_again(alloc: Global, origins: &[VisitedOrigin]) -> Result<Vec<VisitedOrigin>, Memory>
-    ensures { IfOk result (λ copies. map with_visits copies.items ≡ map with_visits origins.now) }
-{
-    let mut copies = Vec::new(alloc);
-    for visited in origins {
-        let origin = visited.origin.again(alloc)?;
-        let visits = visits_again(alloc, &visited.visits)?;
-        copies.push(VisitedOrigin { origin, visits })?;
-    }
-    Ok(copies)
 }
 
 impl State {

@@ -1,9 +1,9 @@
 use Rattle.std.proofs.Common.{◌≢◌, subst, refl}
 use Rattle.std.specs.List.{AllByRecursion}
 use Rattle.std.proofs.lemmas.List.{take_all}
-use Rattle.swh_model.specs.declared.state.VisitedOrigin.{VisitedOrigin}
+use Rattle.swh_model.specs.declared.origins.VisitedOrigin.{VisitedOrigin}
 use Rattle.swh_model.proofs.PlainLists.{place-here, place-none}
-use Rattle.swh_model.proofs.state.place_of.Goals as goal
+use Rattle.swh_model.proofs.origins.place_of.Goals as goal
 
 pub returns-then-is_same_origin-clause-some : goal.returns-then-is_same_origin-clause-some
 returns-then-is_same_origin-clause-some c =

@@ -1,7 +1,7 @@
 use Rattle.std.proofs.Common.{sym, ap, ◌∙◌}
-use Rattle.swh_model.specs.declared.state.VisitedOrigin.{VisitedOrigin}
+use Rattle.swh_model.specs.declared.origins.VisitedOrigin.{VisitedOrigin}
 use Rattle.swh_model.proofs.PlainLists.{visits-at, visits-none}
-use Rattle.swh_model.proofs.state.visits_in.Goals as goal
+use Rattle.swh_model.proofs.origins.visits_in.Goals as goal
 
 pub returns-in-Some : goal.returns-in-Some
 returns-in-Some c =

@@ -3,13 +3,13 @@ use Rattle.std.specs.FinMap.{find, insert}
 use Rattle.std.specs.Ordering.{nat_cmp}
 use Rattle.std.specs.Cmp.Lexicographic.{slice_cmp}
 use Rattle.swh_model.specs.declared.event.Visit.{Visit}
-use Rattle.swh_model.specs.declared.state.VisitedOrigin.{VisitedOrigin}
+use Rattle.swh_model.specs.declared.origins.VisitedOrigin.{VisitedOrigin}
 use Rattle.swh_model.specs.Archive.{visits_of}
 use Rattle.swh_model.specs.Step.{marked_at}
 use Rattle.swh_model.specs.State.{with_visits, origins_in, IsPlaceOf}
 use Rattle.swh_model.proofs.PlainLists.{place-named, visits-at, visits-none, origins-set}
 use Rattle.swh_model.proofs.Results.{on_ok}
-use Rattle.swh_model.proofs.state.mark_in.Goals as goal
+use Rattle.swh_model.proofs.origins.mark_in.Goals as goal
 
 pub push_status-requires : goal.push_status-requires
 push_status-requires c =
