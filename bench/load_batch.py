@@ -8,9 +8,9 @@ Three repositories are made with git and written out by `git cat-file --batch-al
 10,000 and 100,000 objects. Each batch is loaded into a new archive, summed, and unpacked from a pack of the same objects.
 
 The large one has to be loaded at 0.45 of the rate of `sha1sum` or more, and at least as fast as it is unpacked; ten times the
-objects may take at most twelve times as long. Ten loads of the smaller one are timed in a row, so that both times are about as
-long, and what else the machine does in them weighs alike. The ids of the snapshot's branches are git's. The program is the built one,
-outside the gate.
+objects may take at most twelve times as long. Ten loads of the smaller one are timed in a row, so that both times are about
+as long, and the two take turns, so that what else the machine does weighs alike on both. The ids of the snapshot's branches
+are git's. The program is the built one, outside the gate.
 """
 import json
 import os
@@ -19,6 +19,7 @@ import subprocess
 import sys
 import tempfile
 import time
+import typing
 
 from launched import launch
 from load_history import commit, git, large_commits, repository
@@ -28,16 +29,25 @@ from verdict import Verdict
 LEAST_OF_SUM = 0.45
 MOST_TIMES = 12
 ROUNDS = 5
-SMALL = (9_800, 98_000)
-IN_A_ROW = {9_800: 10, 98_000: 1}
+# Of so many files, and so many loads are timed in a row.
+SMALL = {9_800: 10, 98_000: 1}
+
+
+class Batch(typing.NamedTuple):
+    """A batch and its refs, the pack of its objects, and how many loads of it are timed in a row."""
+    name: str
+    batch: str
+    refs: str
+    pack: str
+    times: int
 
 
 def small_commits(files):
     yield commit(0, [(b"folder%03d/file%06d" % (n % 100, n), b"file %d\n" % n) for n in range(files)])
 
 
-def make_batch(scratch, name, commits):
-    """A repository of these commits; its path, and those of its batch and of its refs."""
+def make_batch(scratch, name, commits, times):
+    """The batch of a repository that is made of these commits."""
     bare = repository(os.path.join(scratch, name + ".git"))
     feeding = subprocess.Popen(["git", "-C", bare, "fast-import", "--quiet"], stdin=subprocess.PIPE)
     for text in commits:
@@ -51,7 +61,9 @@ def make_batch(scratch, name, commits):
         subprocess.run(["git", "-C", bare, "cat-file", "--batch-all-objects", "--batch"], check=True, stdout=file)
     with open(refs, "wb") as file:
         file.write(git(bare, "show-ref", "--head", "-d"))
-    return bare, batch, refs
+    pack = os.path.join(scratch, name + ".pack")
+    make_pack(bare, pack)
+    return Batch(name, batch, refs, pack, times)
 
 
 def load(program, scratch, batch, refs):
@@ -92,37 +104,36 @@ def time_unpack(scratch, pack):
     return time.monotonic() - begun
 
 
-def load_in_a_row(program, scratch, batch, refs, times):
-    """The mean time of so many loads in a row, the most bytes that the last held, and the branches of its snapshot."""
-    loads = [load(program, scratch, batch, refs) for _ in range(times)]
-    return sum(one[0] for one in loads) / times, loads[-1][1], loads[-1][2]
+def mean_of_loads(program, scratch, one):
+    """The mean time of the loads in a row, the most bytes that the last held, and the branches of its snapshot."""
+    loads = [load(program, scratch, one.batch, one.refs) for _ in range(one.times)]
+    return sum(took for took, _, _ in loads) / one.times, loads[-1][1], loads[-1][2]
 
 
-def measure(program, scratch, name, commits, verdict, times=1):
-    """The best of some rounds, in turn: seconds of load and sum; and those of unpacking."""
-    bare, batch, refs = make_batch(scratch, name, commits)
-    pack = os.path.join(scratch, name + ".pack")
-    make_pack(bare, pack)
-    rounds = [(load_in_a_row(program, scratch, batch, refs, times), time_sum(batch)) for _ in range(ROUNDS)]
-    loads = [one for one, _ in rounds]
-    took = min(one[0] for one in loads)
-    summed = min(one for _, one in rounds)
-    unpacked = time_unpack(scratch, pack)
-    print("%-8s %9d bytes: swharc %7.3f s, peak %d bytes; sha1sum %7.3f s (%.2f of its rate), git unpack-objects %7.3f s"
-          % (name, os.path.getsize(batch), took, min(one[1] for one in loads), summed, summed / took, unpacked))
-    with open(refs) as file:
-        wanted = {line.split()[1]: line.split()[0] for line in file if not line.rstrip().endswith("^{}")}
-    verdict.as_told("the branches of " + name, None if loads[0][2] == wanted else "%s" % loads[0][2])
-    return took, summed, unpacked
+def measure(program, scratch, batches, verdict):
+    """Of each batch the best of some rounds, in which all take turns: seconds of load and of sum; and those of unpacking."""
+    rounds = [[(mean_of_loads(program, scratch, one), time_sum(one.batch)) for one in batches] for _ in range(ROUNDS)]
+    for one, turns in zip(batches, zip(*rounds)):
+        took = min(loaded[0] for loaded, _ in turns)
+        summed = min(seconds for _, seconds in turns)
+        unpacked = time_unpack(scratch, one.pack)
+        print("%-10s %9d bytes: swharc %7.3f s, peak %d bytes; sha1sum %7.3f s (%.2f of its rate), unpack-objects %7.3f s"
+              % (one.name, os.path.getsize(one.batch), took, min(loaded[1] for loaded, _ in turns), summed, summed / took,
+                 unpacked))
+        with open(one.refs) as file:
+            wanted = {line.split()[1]: line.split()[0] for line in file if not line.rstrip().endswith("^{}")}
+        told = turns[0][0][2]
+        verdict.as_told("the branches of " + one.name, None if told == wanted else "%s" % told)
+        yield took, summed, unpacked
 
 
 def main():
     program = find_program()
     verdict = Verdict()
     with tempfile.TemporaryDirectory() as scratch:
-        large = measure(program, scratch, "large", large_commits(), verdict)
-        fewer, more = (measure(program, scratch, "small%d" % files, small_commits(files), verdict, IN_A_ROW[files])
-                       for files in SMALL)
+        (large,) = measure(program, scratch, [make_batch(scratch, "large", large_commits(), 1)], verdict)
+        fewer, more = measure(program, scratch, [make_batch(scratch, "small%d" % files, small_commits(files), times)
+                                                 for files, times in SMALL.items()], verdict)
     verdict.at_least("the large batch, of sha1sum's rate", large[1] / large[0], LEAST_OF_SUM)
     verdict.at_least("the large batch, times as fast as git unpack-objects", large[2] / large[0], 1)
     verdict.at_most("ten times the objects, times as long", more[0] / fewer[0], MOST_TIMES)
