@@ -49,7 +49,7 @@ inserted c x (Folder n g f) = if is_before (key c x) (n ++ 47 ∷ []) then besid
 abbrev pub put : List ℕ → Stands → Forest → Forest
 put c x f = inserted c x (without c f)
 
--- no folder is empty
+-- the folder of these entries, and nothing where there are none: no folder is empty
 abbrev pub folder : Forest → Stands
 folder Bare = Nothing
 folder f = IsFolder f
@@ -68,7 +68,7 @@ abbrev pub found : List (List ℕ) → Stands → Stands
 found [] x = x
 found (c ∷ p) x = found p (step c x)
 
--- x in the place of all that stands at the path, and of its fronts
+-- the first in the place of all that stands at the path, and of its fronts
 abbrev pub graft : List (List ℕ) → Stands → Stands → Stands
 graft [] x y = x
 graft (c ∷ p) x y = folder (put c (graft p x (step c y)) (forest y))
