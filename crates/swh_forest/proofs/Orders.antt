@@ -16,7 +16,6 @@ use Rattle.swh_forest.specs.Arena.{stands, forest_of, has_name, entries_without,
 use Rattle.swh_entries.specs.Keys.{name_at, entry_key, suffix, texts, is_before}
 use Rattle.swh_entries.specs.Named.{Extends}
 use Rattle.swh_forest.specs.Forest.{Forest, Nothing, beside, child_at}
-use Rattle.swh_forest.specs.PathMap.{same}
 use Rattle.swh_forest.specs.Sound.{IsSound, Follows}
 use Rattle.swh_entries.proofs.Packings.{no_entry}
 use Rattle.swh_forest.specs.Ordered.{AreOrdered, IsAbove}

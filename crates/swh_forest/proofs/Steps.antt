@@ -1,5 +1,5 @@
--- One entry more of a folder.
-use Rattle.std.proofs.Common.{◌≡◌, ◌≢◌, ℕ, ◌<◌, Bool, true, false, cond, List, [], ◌∷◌, ◌++◌, length, ◌+◌, suc, zero, get_or, refl, sym, ap, ◌∙◌, arith}
+-- One entry more of a folder, and what stands under the name of an entry.
+use Rattle.std.proofs.Common.{◌≡◌, ◌≢◌, ℕ, ◌<◌, Bool, true, false, cond, List, [], ◌∷◌, ◌++◌, length, suc, zero, get_or, refl, sym, ap, ◌∙◌, arith}
 use Rattle.std.proofs.lemmas.List.{get_or-map}
 use Rattle.std.specs.Global.{Vec}
 use Rattle.swh_entries.specs.declared.entry.Entry.{Entry}
