@@ -7,7 +7,7 @@ use Rattle.swh_base.specs.declared.kind.Kind.TheVariants.{Content, Directory, Re
 use Rattle.swh_base.specs.declared.name.Name.{Name}
 use Rattle.swh_base.specs.Revision.{revision_name}
 use Rattle.swh_fastlex.specs.Path.{components}
-use Rattle.swh_folders.specs.PathMap.{PathMap, set}
+use Rattle.swh_forest.specs.PathMap.{PathMap, set}
 use Rattle.swh_pathwalk.specs.Tree.{Row}
 use Rattle.swh_fasttext.specs.Text.{cook_branch}
 use Rattle.swh_fastcook.specs.Marks.{mark_of}

@@ -13,7 +13,7 @@ use Rattle.swh_base.specs.declared.name.Name.{Name}
 use Rattle.swh_model.specs.Archive.{Bodies}
 use Rattle.swh_model.specs.Meaning.{Made}
 use Rattle.swh_graph.proofs.Lists.{in_first, in_rest}
-use Rattle.swh_folders.specs.PathMap.{PathMap}
+use Rattle.swh_forest.specs.PathMap.{PathMap}
 use Rattle.swh_fasttext.specs.Text.{cook_branch}
 use Rattle.swh_fastcook.specs.Stream.{LeavesBranch}
 use Rattle.swh_fastgrammar.specs.declared.command.Command.{Command}

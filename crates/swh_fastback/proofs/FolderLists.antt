@@ -7,8 +7,8 @@ use Rattle.swh_base.specs.Directory.{directory_text}
 use Rattle.swh_model.specs.Meaning.{Made, directory}
 use Rattle.swh_graph.proofs.Lists.{in_first, in_rest, in_cases, none_in, in_map, from_map}
 use Rattle.swh_entries.specs.declared.entry.Leaf.{Leaf}
-use Rattle.swh_folders.specs.PathMap.{PathMap, HasFolder, held, leaf_at, same_path}
-use Rattle.swh_folders.proofs.Lookups.{path_is, path_self}
+use Rattle.swh_forest.specs.PathMap.{PathMap, HasFolder, held, leaf_at, same_path}
+use Rattle.swh_forest.proofs.Lookups.{path_is, path_self}
 use Rattle.swh_trees.specs.Directory.{directory_of}
 use Rattle.swh_fastmeaning.specs.Commands.{Making, Makes}
 

@@ -9,11 +9,11 @@ use Rattle.swh_model.specs.Meaning.{Made}
 use Rattle.swh_graph.specs.Holding.{HoldsDirectory}
 use Rattle.swh_graph.specs.Path.{directory_name}
 use Rattle.swh_entries.specs.declared.entry.Leaf.{Leaf}
-use Rattle.swh_folders.specs.Forest.{Forest, Nothing, IsFile, IsFolder, Stands, child_at, flat, found, leaf_of as leaf_in, shown}
-use Rattle.swh_folders.specs.PathMap.{PathMap, HasFolder, held, held_by, leaf_at, same}
-use Rattle.swh_folders.specs.Sound.{IsSound}
-use Rattle.swh_folders.proofs.Flats.{held-by}
-use Rattle.swh_folders.proofs.Lookups.{lookup, found-nothing, found-file}
+use Rattle.swh_forest.specs.Forest.{Forest, Nothing, IsFile, IsFolder, Stands, child_at, flat, found, leaf_of as leaf_in, shown}
+use Rattle.swh_forest.specs.PathMap.{PathMap, HasFolder, held, held_by, leaf_at, same}
+use Rattle.swh_forest.specs.Sound.{IsSound}
+use Rattle.swh_forest.proofs.Flats.{held-by}
+use Rattle.swh_forest.proofs.Lookups.{lookup, found-nothing, found-file}
 use Rattle.swh_trees.specs.Directory.{directory_of}
 use Rattle.swh_trees.proofs.Directories.{directory-of}
 use Rattle.swh_pathwalk.specs.Tree.{Tree, End, Leaf as TreeLeaf, Folder, entries_in, AreHeldUnder}

@@ -4,12 +4,12 @@ use Rattle.std.specs.Prelude.{◌||◌}
 use Rattle.std.specs.List.{AllByRecursion}
 use Rattle.std.proofs.lemmas.List.{append-nil}
 use Rattle.swh_entries.specs.declared.entry.Leaf.{Leaf}
-use Rattle.swh_folders.specs.Forest.{Forest, Bare, File, Folder, Nothing, IsFile, IsFolder, Stands, child_at, flat}
-use Rattle.swh_folders.specs.PathMap.{PathMap, same, begins, is_path_before, insert_path, cleared, set}
-use Rattle.swh_folders.specs.Sound.{IsSound}
-use Rattle.swh_folders.proofs.Grafts.{same_self, not_same}
-use Rattle.swh_folders.proofs.Flats.{under}
-use Rattle.swh_folders.proofs.Canonical.{Ascends, ascends}
+use Rattle.swh_forest.specs.Forest.{Forest, Bare, File, Folder, Nothing, IsFile, IsFolder, Stands, child_at, flat}
+use Rattle.swh_forest.specs.PathMap.{PathMap, same, begins, is_path_before, insert_path, cleared, set}
+use Rattle.swh_forest.specs.Sound.{IsSound}
+use Rattle.swh_forest.proofs.Grafts.{same_self, not_same}
+use Rattle.swh_forest.proofs.Flats.{under}
+use Rattle.swh_forest.proofs.Canonical.{Ascends, ascends}
 
 -- each of these, behind this path, is set, one after another
 abbrev pub sets : List (List ℕ) → PathMap → PathMap → PathMap

@@ -28,8 +28,8 @@ use Rattle.swh_postorder.proofs.Preceded.{cut_at}
 use Rattle.swh_carried.specs.Rules.{HasDirectoryEntry}
 use Rattle.swh_fastcarried.specs.Rules.{tag_branch}
 use Rattle.swh_revfmt.specs.Plain.{PlainRevision, IsPlainRevision, plain_revision_text, PlainRelease, IsPlainRelease, plain_release_text}
-use Rattle.swh_folders.specs.PathMap.{PathMap}
-use Rattle.swh_folders.specs.Forest.{flat}
+use Rattle.swh_forest.specs.PathMap.{PathMap}
+use Rattle.swh_forest.specs.Forest.{flat}
 use Rattle.swh_trees.specs.Directory.{directory_id, directory_of}
 use Rattle.swh_pathwalk.specs.Tree.{Tree, entries_in, Row}
 use Rattle.swh_fasttext.specs.Text.{cook_branch}

@@ -15,12 +15,12 @@ use Rattle.swh_graph.specs.Path.{directory_name}
 use Rattle.swh_entries.specs.Keys.{is_before}
 use Rattle.swh_fastlex.specs.Path.{components}
 use Rattle.swh_fastlex.proofs.Components.{components_none, components_at}
-use Rattle.swh_folders.specs.Forest.{Forest, Bare, File, Folder as FolderOf, Nothing, child_at, flat}
-use Rattle.swh_folders.specs.PathMap.{PathMap, set}
-use Rattle.swh_folders.specs.Sound.{IsSound, Follows}
-use Rattle.swh_folders.specs.Leaf.{IsLeafMode}
-use Rattle.swh_folders.proofs.Grafts.{not_same}
-use Rattle.swh_folders.proofs.Flats.{under}
+use Rattle.swh_forest.specs.Forest.{Forest, Bare, File, Folder as FolderOf, Nothing, child_at, flat}
+use Rattle.swh_forest.specs.PathMap.{PathMap, set}
+use Rattle.swh_forest.specs.Sound.{IsSound, Follows}
+use Rattle.swh_forest.specs.Leaf.{IsLeafMode}
+use Rattle.swh_forest.proofs.Grafts.{not_same}
+use Rattle.swh_forest.proofs.Flats.{under}
 use Rattle.swh_trees.specs.Directory.{directory_id, directory_of}
 use Rattle.swh_trees.specs.Listing.{directory}
 use Rattle.swh_trees.proofs.Directories.{directory-of}

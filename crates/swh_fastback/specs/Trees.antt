@@ -3,7 +3,7 @@ use Rattle.std.specs.Prelude.{◌≢◌, ◌==◌, if◌then◌else◌, List, []
 use Rattle.swh_base.specs.Directory.{DirectoryEntry}
 use Rattle.swh_entries.specs.declared.entry.Leaf.{Leaf}
 use Rattle.swh_fastlex.specs.Path.{components}
-use Rattle.swh_folders.specs.PathMap.{PathMap, set}
+use Rattle.swh_forest.specs.PathMap.{PathMap, set}
 use Rattle.swh_pathwalk.specs.Tree.{Tree, End, Leaf as TreeLeaf, Folder, entries_in, Row}
 
 -- what stands at the path of an entry that is no folder

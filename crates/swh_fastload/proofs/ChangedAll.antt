@@ -9,7 +9,7 @@ use Rattle.swh_base.specs.declared.name.Name.{Name}
 use Rattle.swh_model.specs.Meaning.{Made, content}
 use Rattle.swh_model.proofs.Entries.{all-append}
 use Rattle.swh_fastlex.specs.Path.{components}
-use Rattle.swh_folders.specs.PathMap.{PathMap, held, set, delete, copy, rename}
+use Rattle.swh_forest.specs.PathMap.{PathMap, held, set, delete, copy, rename}
 use Rattle.swh_fastgrammar.specs.declared.command.At.{At}
 use Rattle.swh_fastgrammar.specs.declared.command.Change.{Change}
 use Rattle.swh_fastgrammar.specs.declared.command.Change.TheVariants.{Set, Delete, Copy, Move, Clear}

@@ -12,8 +12,8 @@ use Rattle.swh_model.specs.Meaning.{Made, content}
 use Rattle.swh_model.proofs.Entries.{all-append}
 use Rattle.swh_fastlex.specs.Path.{IsPath, components}
 use Rattle.swh_entries.specs.declared.entry.Leaf.{Leaf}
-use Rattle.swh_folders.specs.PathMap.{PathMap, same, is_path_before, insert_path, cleared, set, delete, rest_beside, held_by, held, insert_under, put_held, copy, rename, HasFolder}
-use Rattle.swh_folders.proofs.Components.{path-names, components-some}
+use Rattle.swh_forest.specs.PathMap.{PathMap, same, is_path_before, insert_path, cleared, set, delete, rest_beside, held_by, held, insert_under, put_held, copy, rename, HasFolder}
+use Rattle.swh_forest.proofs.Components.{path-names, components-some}
 use Rattle.swh_made.specs.Whole.{content_name}
 use Rattle.swh_fastgrammar.specs.declared.command.Change.{Change}
 use Rattle.swh_fastgrammar.specs.declared.command.Change.TheVariants.{Set, Delete, Copy, Move, Clear}

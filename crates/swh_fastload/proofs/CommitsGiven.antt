@@ -15,7 +15,7 @@ use Rattle.swh_model.specs.Meaning.{Made}
 use Rattle.swh_trees.specs.Grove.{Grove, folder_map}
 use Rattle.swh_trees.specs.Makes.{IsNumbered}
 use Rattle.swh_trees.specs.Objects.{AreDirectoryObjects, IsDirectoryObject}
-use Rattle.swh_folders.specs.PathMap.{PathMap, HasFolder, held, held_by}
+use Rattle.swh_forest.specs.PathMap.{PathMap, HasFolder, held, held_by}
 use Rattle.swh_trees.specs.Directory.{directory_id, directory_of}
 use Rattle.swh_made.specs.Making.{made_from, made, name_of, object_of, names_of_made, HaveIds}
 use Rattle.swh_fastmeaning.specs.Commands.{revision_parts}

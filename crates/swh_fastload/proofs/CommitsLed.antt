@@ -17,8 +17,8 @@ use Rattle.swh_trees.specs.Directory.{directory_id, directory_of}
 use Rattle.swh_model.specs.Meaning.{Made, directory}
 use Rattle.swh_trees.specs.declared.tree.Tree.{Tree}
 use Rattle.swh_trees.specs.Grove.{Grove, folder_map, map_of}
-use Rattle.swh_folders.specs.Roots.{IsBelow, map_of_number}
-use Rattle.swh_folders.specs.PathMap.{PathMap, HasFolder, held}
+use Rattle.swh_forest.specs.Roots.{IsBelow, map_of_number}
+use Rattle.swh_forest.specs.PathMap.{PathMap, HasFolder, held}
 use Rattle.swh_made.specs.Making.{made_from, made, name_of, object_of, names_of_made, HaveIds}
 use Rattle.swh_made.specs.Whole.{content_name}
 use Rattle.swh_fastmeaning.specs.Aims.{Aim, AllAims, Missing, with_mark, with_tip, aim_with, aims_with}

@@ -12,7 +12,7 @@ use Rattle.swh_trees.specs.declared.tree.Tree.{Tree}
 use Rattle.swh_trees.specs.declared.fault.TreeFault.TheVariants.{TooLong}
 use Rattle.swh_trees.specs.Grove.{Grove, Keeps, StandsFor, IsTree, map_of}
 use Rattle.swh_trees.specs.Makes.{Makes, ExplainsTree}
-use Rattle.swh_folders.specs.PathMap.{PathMap, held}
+use Rattle.swh_forest.specs.PathMap.{PathMap, held}
 use Rattle.swh_trees.specs.Directory.{directory_of}
 use Rattle.swh_made.specs.Making.{made}
 use Rattle.swh_fastmeaning.specs.Aims.{Aim, AllAims, Missing, aim_with, aims_with}

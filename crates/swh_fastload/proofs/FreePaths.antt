@@ -3,9 +3,9 @@ use Rattle.std.proofs.Common.{◌≡◌, ◌≢◌, ◌⊎◌, inl, inr, ℕ, Bo
 use Rattle.std.specs.Prelude.{filter, ◌&&◌, ◌||◌}
 use Rattle.std.proofs.lemmas.List.{append-nil}
 use Rattle.swh_entries.specs.declared.entry.Leaf.{Leaf}
-use Rattle.swh_folders.specs.PathMap.{PathMap, same, same_path, leaf_at, begins, is_path_before, insert_path, cleared, set, delete, rest_beside, held_by, held, insert_under, put_held, copy, rename, HasFolder}
-use Rattle.swh_folders.proofs.Grafts.{same_is, same_self}
-use Rattle.swh_folders.proofs.Lookups.{path_is, begins-more}
+use Rattle.swh_forest.specs.PathMap.{PathMap, same, same_path, leaf_at, begins, is_path_before, insert_path, cleared, set, delete, rest_beside, held_by, held, insert_under, put_held, copy, rename, HasFolder}
+use Rattle.swh_forest.proofs.Grafts.{same_is, same_self}
+use Rattle.swh_forest.proofs.Lookups.{path_is, begins-more}
 use Rattle.swh_fastmeaning.specs.Stock.{IsFree}
 use Rattle.swh_made.proofs.Elements.{first_or_later, first_is, later_is, none_is}
 

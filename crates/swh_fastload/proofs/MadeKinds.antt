@@ -6,7 +6,7 @@ use Rattle.swh_base.specs.declared.kind.Kind.{Kind}
 use Rattle.swh_base.specs.declared.kind.Kind.TheVariants.{Content, Directory, Revision, Release, Snapshot}
 use Rattle.swh_model.specs.Meaning.{Made, content}
 use Rattle.swh_model.proofs.Entries.{all-append}
-use Rattle.swh_folders.specs.PathMap.{PathMap}
+use Rattle.swh_forest.specs.PathMap.{PathMap}
 use Rattle.swh_fastgrammar.specs.declared.command.At.{At}
 use Rattle.swh_fastgrammar.specs.declared.command.Commitish.{Commitish}
 use Rattle.swh_fastgrammar.specs.declared.command.Start.{Start}

@@ -1,7 +1,7 @@
 //! What inputs mean and how they break (`Means` and `Breaks` in specs/Input.antt), and the loader that makes what they
 //! mean: `load_source` for a whole source, `FastLoad` command by command (git-fast-import(1), commands).
 //! Stands on `swh_base`, `swh_outside`, `swh_fastlex`, `swh_revfmt`, `swh_snpfmt`, `swh_object`, `swh_made`,
-//! `swh_fastrows`, `swh_fastread`, `swh_entries`, `swh_folders`, `swh_trees` and `swh_fastmeaning`, and on the types and
+//! `swh_fastrows`, `swh_fastread`, `swh_entries`, `swh_forest`, `swh_trees` and `swh_fastmeaning`, and on the types and
 //! definitions of `swh_fastgrammar` and `swh_model`.
 //! Callers may rely on: for each command a loader gives exactly the objects that it makes and that were not given
 //! before, each after all that it names, or it tells the place of the first line that names what is not there, or a

@@ -13,7 +13,7 @@ use Rattle.swh_base.specs.declared.kind.Kind.TheVariants.{Content, Directory, Re
 use Rattle.swh_base.specs.Text.{IsRef}
 use Rattle.swh_model.specs.Meaning.{Made}
 use Rattle.swh_trees.specs.declared.tree.Tree.{Tree}
-use Rattle.swh_folders.specs.Roots.{IsBelow}
+use Rattle.swh_forest.specs.Roots.{IsBelow}
 use Rattle.swh_fastgrammar.specs.declared.command.At.{At}
 use Rattle.swh_fastgrammar.specs.declared.command.Commitish.{Commitish}
 use Rattle.swh_fastgrammar.specs.declared.command.Commitish.TheVariants.{Mark, Branch}

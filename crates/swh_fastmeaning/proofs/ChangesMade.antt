@@ -11,7 +11,7 @@ use Rattle.swh_trees.specs.declared.tree.Tree.{Tree}
 use Rattle.swh_trees.specs.Grove.{Grove, StandsFor, Keeps, map_of}
 use Rattle.swh_fastlex.specs.Path.{components}
 use Rattle.swh_entries.specs.declared.entry.Leaf.{Leaf}
-use Rattle.swh_folders.specs.PathMap.{PathMap, held, set, delete, copy, rename}
+use Rattle.swh_forest.specs.PathMap.{PathMap, held, set, delete, copy, rename}
 use Rattle.swh_fastgrammar.specs.declared.command.At.{At}
 use Rattle.swh_fastgrammar.specs.declared.command.Change.{Change}
 use Rattle.swh_fastgrammar.specs.declared.command.Change.TheVariants.{Set, Delete, Copy, Move, Clear}

@@ -32,7 +32,7 @@ use Rattle.swh_made.specs.Making.{HaveIds, names_of_made, made_from}
 use Rattle.swh_fastmeaning.specs.Stock.{IsTipAmong}
 use Rattle.swh_fastmeaning.specs.Ending.{is_greater, head_to, Ascend, AreSides, middle, IsHead, ExplainsEnd, EndsParts, refs_limit}
 use Rattle.swh_base.specs.declared.entry.Entry.{Entry}
-use Rattle.swh_folders.specs.PathMap.{PathMap}
+use Rattle.swh_forest.specs.PathMap.{PathMap}
 use Rattle.swh_fastmeaning.specs.Parting.{ExplainsBody}
 use Rattle.swh_fastmeaning.specs.declared.feed_fault.FeedFault.{FeedFault}
 use Rattle.swh_fastmeaning.specs.declared.feed_fault.FeedFault.TheVariants.{BadStream, Limit, Memory}

@@ -10,9 +10,9 @@ use Rattle.swh_base.specs.Text.{IsRef}
 use Rattle.swh_model.specs.Meaning.{Made, content}
 use Rattle.swh_trees.specs.declared.tree.Tree.{Tree}
 use Rattle.swh_trees.specs.Grove.{Grove, StandsFor, folder_map, map_of, no_trees}
-use Rattle.swh_folders.specs.Roots.{IsBelow}
+use Rattle.swh_forest.specs.Roots.{IsBelow}
 use Rattle.swh_entries.specs.declared.entry.Leaf.{Leaf}
-use Rattle.swh_folders.specs.PathMap.{PathMap}
+use Rattle.swh_forest.specs.PathMap.{PathMap}
 use Rattle.swh_made.specs.Making.{made_from, made, name_of, names_of_made}
 use Rattle.swh_fastgrammar.specs.declared.command.Command.{Command}
 use Rattle.swh_fastgrammar.specs.declared.command.Command.TheVariants.{Blob, Reset}

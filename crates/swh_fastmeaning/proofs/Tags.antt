@@ -14,7 +14,7 @@ use Rattle.swh_revfmt.specs.Plain.{PlainRelease, IsTagName, plain_release_text, 
 use Rattle.swh_model.specs.Meaning.{Made}
 use Rattle.swh_trees.specs.declared.tree.Tree.{Tree}
 use Rattle.swh_trees.specs.Grove.{map_of}
-use Rattle.swh_folders.specs.PathMap.{PathMap}
+use Rattle.swh_forest.specs.PathMap.{PathMap}
 use Rattle.swh_made.specs.Making.{made_from, name_of, object_of, names_of_made, HaveIds}
 use Rattle.swh_fastgrammar.specs.declared.command.Command.TheVariants.{Tag}
 use Rattle.swh_fastgrammar.specs.declared.command.At.{At}

@@ -8,7 +8,7 @@ use Rattle.swh_base.specs.Directory.{directory_text}
 use Rattle.swh_revfmt.specs.Plain.{RevisionRest, PlainRevision, PlainRelease, plain_revision_text, plain_release_text}
 use Rattle.swh_model.specs.Meaning.{Made, content, directory}
 use Rattle.swh_fastlex.specs.Path.{components}
-use Rattle.swh_folders.specs.PathMap.{PathMap, HasFolder, held, set, delete, copy, rename}
+use Rattle.swh_forest.specs.PathMap.{PathMap, HasFolder, held, set, delete, copy, rename}
 use Rattle.swh_trees.specs.Directory.{directory_of}
 use Rattle.swh_fastgrammar.specs.declared.command.At.{At}
 use Rattle.swh_fastgrammar.specs.declared.command.Commitish.{Commitish}

@@ -12,9 +12,9 @@ use Rattle.swh_model.specs.Meaning.{Made, directory}
 use Rattle.swh_trees.specs.declared.tree.Tree.{Tree}
 use Rattle.swh_entries.specs.declared.entry.Leaf.{Leaf}
 use Rattle.swh_trees.specs.Grove.{Grove, folder_map, map_of, StandsFor}
-use Rattle.swh_folders.specs.Roots.{IsBelow}
-use Rattle.swh_folders.specs.Leaf.{IsLeafMode}
-use Rattle.swh_folders.specs.PathMap.{PathMap, begins}
+use Rattle.swh_forest.specs.Roots.{IsBelow}
+use Rattle.swh_forest.specs.Leaf.{IsLeafMode}
+use Rattle.swh_forest.specs.PathMap.{PathMap, begins}
 use Rattle.swh_trees.specs.Directory.{directory_of}
 use Rattle.swh_made.specs.Making.{name_of, names_of_made, HaveIds}
 use Rattle.swh_made.specs.Whole.{content_name}

@@ -9,19 +9,19 @@ use Rattle.swh_folders.specs.declared.folders.Folders.{Folders}
 use Rattle.swh_folders.specs.declared.opened.Opened.{Opened}
 use Rattle.swh_entries.specs.Listed.{Listed}
 use Rattle.swh_entries.specs.declared.entry.Entry.{Entry}
-use Rattle.swh_folders.specs.Arena.{forest_of, tree_at, AreGood, Grows}
+use Rattle.swh_forest.specs.Arena.{forest_of, tree_at, AreGood, Grows}
 use Rattle.swh_entries.specs.Keys.{texts}
 use Rattle.swh_entries.specs.Named.{Extends}
-use Rattle.swh_folders.specs.Forest.{Forest, Stands, Nothing, IsFile, IsFolder, child_at, put, folder, forest, found, graft, flat}
+use Rattle.swh_forest.specs.Forest.{Forest, Stands, Nothing, IsFile, IsFolder, child_at, put, folder, forest, found, graft, flat}
 use Rattle.swh_folders.specs.Opened.{folder_path, own_forest, open_forest, IsOpened, StandsIn}
-use Rattle.swh_folders.specs.PathMap.{PathMap, set, delete}
-use Rattle.swh_folders.specs.Roots.{IsBelow, IsGood, root_forest}
-use Rattle.swh_folders.specs.Sound.{IsLeaf, IsSound}
+use Rattle.swh_forest.specs.PathMap.{PathMap, set, delete}
+use Rattle.swh_forest.specs.Roots.{IsBelow, IsGood, root_forest}
+use Rattle.swh_forest.specs.Sound.{IsLeaf, IsSound}
 use Rattle.swh_folders.specs.Working.{AreFolders, count_of, IsTallied, StaysBelow}
-use Rattle.swh_folders.proofs.Arenas.{same-forest, good-more}
+use Rattle.swh_forest.proofs.Arenas.{same-forest, good-more}
 use Rattle.swh_folders.proofs.Copies.{good-take, tree-take}
 use Rattle.swh_folders.proofs.Closings.{found-here}
-use Rattle.swh_folders.proofs.Lookups.{found-append}
+use Rattle.swh_forest.proofs.Lookups.{found-append}
 use Rattle.swh_folders.proofs.Openings.{stands-own, set-opened, found-opened, delete-opened, delete-absent, last-some}
 
 -- ## Names of a path

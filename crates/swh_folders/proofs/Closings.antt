@@ -1,23 +1,23 @@
 -- What is left when a folder is opened, edited and closed.
-use Rattle.std.proofs.Common.{◌≡◌, inl, inr, ℕ, ◌<◌, List, [], ◌∷◌, length, Option, Some, None, refl, sym, ap, subst, ◌∙◌, arith}
+use Rattle.std.proofs.Common.{◌≡◌, inl, inr, ℕ, ◌<◌, List, length, Option, Some, None, refl, sym, ap, subst, ◌∙◌, arith}
 use Rattle.std.specs.Global.{Vec}
 use Rattle.swh_entries.specs.declared.entry.Child.{Child}
 use Rattle.swh_entries.specs.declared.entry.Entry.{Entry}
 use Rattle.swh_folders.specs.declared.folders.Folders.{Folders}
 use Rattle.swh_entries.specs.Listed.{Listed}
-use Rattle.swh_folders.specs.Arena.{stands_of, forest_of, tree_at, entries_without, AreGood, IsIn, Grows}
+use Rattle.swh_forest.specs.Arena.{stands_of, forest_of, tree_at, entries_without, AreGood, IsIn, Grows}
 use Rattle.swh_entries.specs.Keys.{texts}
 use Rattle.swh_entries.specs.Named.{Extends}
-use Rattle.swh_folders.specs.Forest.{Forest, Stands, IsFolder, put, inserted, forest, found, graft, flat}
+use Rattle.swh_forest.specs.Forest.{Forest, Stands, IsFolder, put, inserted, forest, found, graft, flat}
 use Rattle.swh_folders.specs.Live.{IsPart}
 use Rattle.swh_folders.specs.Opened.{StaysBounded}
-use Rattle.swh_folders.specs.PathMap.{PathMap}
-use Rattle.swh_folders.specs.Roots.{IsBelow, IsGood, root_forest}
+use Rattle.swh_forest.specs.PathMap.{PathMap}
+use Rattle.swh_forest.specs.Roots.{IsBelow, IsGood, root_forest}
 use Rattle.swh_folders.specs.Working.{AreFolders, folder_at, root_map, IsTallied, KeepsCounts, StaysBelow, AreNeeded, IsWithin, IsSetAnew, IsBounded}
-use Rattle.swh_folders.proofs.Arenas.{arena-names, sound-names, tree-names, put-added}
+use Rattle.swh_forest.proofs.Arenas.{arena-names, sound-names, tree-names, put-added}
 use Rattle.swh_folders.proofs.Openings.{root-names}
 use Rattle.swh_folders.proofs.Overwrites.{found-same, graft-same}
-use Rattle.swh_folders.proofs.Steps.{forest-without, without-good}
+use Rattle.swh_forest.proofs.Steps.{forest-without, without-good}
 
 pub found-here : (p : List (List ℕ)) (y : Stands) (g : Forest) → forest y ≡ g → forest (found p y) ≡ forest (found p (IsFolder g))
 found-here p y g is = sym (found-same p y) ∙ ap (λ (f : Forest). forest (found p (IsFolder f))) is

@@ -6,14 +6,14 @@ use Rattle.std.proofs.lemmas.List.{length-append, length-take, get_or_append_lef
 use Rattle.std.specs.Global.{Vec}
 use Rattle.swh_entries.specs.declared.entry.Entry.{Entry}
 use Rattle.swh_entries.specs.Listed.{Listed}
-use Rattle.swh_folders.specs.Arena.{layers, among, AllGood, tree_at, forest_of, AreGood, IsArena}
+use Rattle.swh_forest.specs.Arena.{layers, among, AllGood, tree_at, forest_of, AreGood, IsArena}
 use Rattle.swh_entries.specs.Keys.{texts}
-use Rattle.swh_folders.specs.Forest.{Forest, Stands, forest}
-use Rattle.swh_folders.specs.Sound.{IsSound}
-use Rattle.swh_folders.specs.Roots.{IsGood}
+use Rattle.swh_forest.specs.Forest.{Forest, Stands, forest}
+use Rattle.swh_forest.specs.Sound.{IsSound}
+use Rattle.swh_forest.specs.Roots.{IsGood}
 use Rattle.swh_folders.specs.Live.{IsPart}
 use Rattle.swh_folders.specs.Moved.{IsCopied}
-use Rattle.swh_folders.proofs.Arenas.{tree-push_old, tree-push_new, arena-push, among-older, length-layers, tree-node, entries-low, same-forest}
+use Rattle.swh_forest.proofs.Arenas.{tree-push_old, tree-push_new, arena-push, among-older, length-layers, tree-node, entries-low, same-forest}
 use Rattle.swh_folders.proofs.Lives.{part-sound}
 
 long-copy : (nodes fresh : List Listed) (base : ℕ) → base ≤ length nodes → length (take base nodes ++ fresh) ≡ base + length fresh

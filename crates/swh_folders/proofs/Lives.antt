@@ -1,5 +1,5 @@
 -- Marked folders: what marking one more does, and that the marked ones are parts of the root.
-use Rattle.std.proofs.Common.{◌≡◌, ◌≢◌, ℕ, suc, zero, ◌+◌, ◌-◌, ◌<◌, ◌≤◌, Bool, true, false, List, [], ◌∷◌, ◌++◌, length, take, drop, get_or, refl, sym, ap, subst, ◌∙◌, inl, inr, ◌⊎◌, arith}
+use Rattle.std.proofs.Common.{◌≡◌, ℕ, ◌+◌, ◌<◌, ◌≤◌, Bool, true, List, [], ◌∷◌, ◌++◌, length, take, drop, get_or, ap, subst, ◌∙◌, inl, inr, ◌⊎◌, arith}
 use Rattle.std.proofs.lemmas.Bool.{cases_lt}
 use Rattle.std.proofs.lemmas.List.{get_or_default, drop_all, take_all, append-nil}
 use Rattle.std.specs.Global.{Vec}
@@ -7,18 +7,16 @@ use Rattle.swh_entries.specs.declared.entry.Child.{Child}
 use Rattle.swh_entries.specs.declared.entry.Child.TheVariants.{File as FileChild, Folder as FolderChild}
 use Rattle.swh_entries.specs.declared.entry.Entry.{Entry}
 use Rattle.swh_entries.specs.Listed.{Listed}
-use Rattle.swh_folders.specs.Arena.{stands, forest_of, tree_at, IsArena, IsLower}
+use Rattle.swh_forest.specs.Arena.{stands, forest_of, tree_at, IsArena, IsLower}
 use Rattle.swh_entries.specs.Keys.{name_at, texts}
-use Rattle.swh_folders.specs.Forest.{Forest, Stands, Nothing, IsFile, IsFolder, beside, child_at, forest, step, found}
-use Rattle.swh_folders.specs.PathMap.{same}
-use Rattle.swh_folders.specs.Sound.{IsSound, IsSoundHere}
-use Rattle.swh_folders.specs.Roots.{AreSound}
+use Rattle.swh_forest.specs.Forest.{Forest, Stands, Nothing, IsFile, IsFolder, child_at, forest, step, found}
+use Rattle.swh_forest.specs.Sound.{IsSound, IsSoundHere}
+use Rattle.swh_forest.specs.Roots.{AreSound}
 use Rattle.swh_folders.specs.Live.{is_live, IsMarked, AreMarked, HasChild, AreLower, IsClosed, IsPart, AreLiveParts}
-use Rattle.swh_folders.proofs.Arenas.{tree-node, entries-low}
-use Rattle.swh_folders.proofs.Grafts.{same_is, same_self}
-use Rattle.swh_folders.proofs.Lookups.{found-append}
-use Rattle.swh_folders.proofs.Sounds.{found-sound, child-sound}
-use Rattle.swh_folders.proofs.Steps.{beside-here, beside-past, good-at}
+use Rattle.swh_forest.proofs.Arenas.{tree-node, entries-low}
+use Rattle.swh_forest.proofs.Lookups.{found-append}
+use Rattle.swh_forest.proofs.Sounds.{found-sound, child-sound}
+use Rattle.swh_forest.proofs.Steps.{child-of-entry, good-at}
 
 -- ## Marks
 
@@ -45,27 +43,6 @@ only-step base first old new es i d j one before h = elim (one h) [
 ]
 
 -- ## Parts of a root
-
-pub tail-sound : (n : List ℕ) (k : Child) (at : ℕ → Forest) (f : Forest) → IsSound (beside n (stands at k) f) → (child_at n f ≡ Nothing) × IsSound f
-tail-sound n (FileChild l) at f s = (s.2, s.4)
-tail-sound n (FolderChild j) at f s = (s.3, s.5)
-
-pub some-child : (at : ℕ → Forest) (c : Child) → stands at c ≢ Nothing
-some-child at (FileChild l) e = cc
-some-child at (FolderChild j) e = cc
-
-past_case : (b : Bool) (n c : List ℕ) (k k' : Child) (at : ℕ → Forest) (f : Forest) → same n c ≡ b → child_at n f ≡ Nothing → child_at c f ≡ stands at k' → child_at c (beside n (stands at k) f) ≡ stands at k'
-past_case true n c k k' at f e fresh h = let is = same_is n c e in let none : child_at c f ≡ Nothing = rw (← is) fresh in absurd (some-child at k' (sym h ∙ none))
-past_case false n c k k' at f e fresh h = beside-past n c k at f e ∙ h
-
--- what stands under an entry's name is the entry's child
-pub child-of-entry : (names : List (List ℕ)) (at : ℕ → Forest) (es : List Entry) (k : ℕ) (d : Entry) → k < length es → IsSound (forest_of names at es) → child_at (name_at names (get_or es k d).name) (forest_of names at es) ≡ stands at (get_or es k d).child
-child-of-entry names at [] k d lt s = absurd (omega arith)
-child-of-entry names at (e ∷ es) zero d lt s = beside-here (name_at names e.name) (name_at names e.name) e.child at (forest_of names at es) (same_self (name_at names e.name))
-child-of-entry names at (e ∷ es) (suc k) d lt s =
-    let rest = tail-sound (name_at names e.name) e.child at (forest_of names at es) s in
-    past_case (same (name_at names e.name) (name_at names (get_or es k d).name)) (name_at names e.name) (name_at names (get_or es k d).name) e.child (get_or es k d).child at (forest_of names at es) refl rest.0
-    (child-of-entry names at es k d (omega arith) rest.1)
 
 -- a child of a part is a part
 pub part-child : (names : List (Vec ℕ)) (nodes : List Listed) (x : Stands) (i j : ℕ) (w : Listed) → IsArena names nodes → AreSound names nodes → i < length nodes → IsPart x (tree_at names nodes i) → HasChild (get_or nodes i w).items (length (get_or nodes i w).items) j → IsPart x (tree_at names nodes j)

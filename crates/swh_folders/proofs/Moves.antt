@@ -4,8 +4,8 @@ use Rattle.std.proofs.lemmas.List.{take_more}
 use Rattle.swh_entries.specs.declared.entry.Entry.{Entry}
 use Rattle.swh_entries.specs.declared.entry.Child.{Child}
 use Rattle.swh_entries.specs.declared.entry.Child.TheVariants.{File as FileChild, Folder as FolderChild}
-use Rattle.swh_folders.specs.Forest.{Forest, Bare, File, Folder, Stands, beside}
-use Rattle.swh_folders.specs.Arena.{stands, forest_of, IsGood, AreGood}
+use Rattle.swh_forest.specs.Forest.{Forest, Bare, File, Folder, Stands, beside}
+use Rattle.swh_forest.specs.Arena.{stands, forest_of, IsGood, AreGood}
 use Rattle.swh_entries.specs.Keys.{name_at}
 
 -- one folder's entries after another's

@@ -6,21 +6,21 @@ use Rattle.swh_base.specs.Directory.{IsEntryName}
 use Rattle.swh_entries.specs.declared.entry.Leaf.{Leaf}
 use Rattle.swh_folders.specs.declared.opened.Opened.{Opened}
 use Rattle.swh_entries.specs.Listed.{Listed}
-use Rattle.swh_folders.specs.Arena.{tree_at, IsArena}
+use Rattle.swh_forest.specs.Arena.{tree_at, IsArena}
 use Rattle.swh_entries.specs.Named.{Extends}
-use Rattle.swh_folders.specs.Forest.{Forest, Stands, Nothing, IsFile, IsFolder, child_at, put, folder, forest, found, graft, deleted, flat}
+use Rattle.swh_forest.specs.Forest.{Forest, Stands, Nothing, IsFile, IsFolder, child_at, put, folder, forest, found, graft, deleted, flat}
 use Rattle.swh_folders.specs.Opened.{folder_path, own_forest, root_with, open_forest, IsOpened, StandsIn}
-use Rattle.swh_folders.specs.PathMap.{PathMap, set, delete}
-use Rattle.swh_folders.specs.Roots.{IsBelow, map_of_number, IsGood, map_at, root_forest}
-use Rattle.swh_folders.specs.Sound.{IsLeaf, IsSound, IsSoundHere}
-use Rattle.swh_folders.proofs.Arenas.{tree-names}
-use Rattle.swh_folders.proofs.Canonical.{delete-here}
-use Rattle.swh_folders.proofs.EditedRoots.{root_flat, root_sound, deleted_one}
-use Rattle.swh_folders.proofs.Grafts.{forest-folder}
-use Rattle.swh_folders.proofs.Lookups.{found-append}
+use Rattle.swh_forest.specs.PathMap.{PathMap, set, delete}
+use Rattle.swh_forest.specs.Roots.{IsBelow, map_of_number, IsGood, map_at, root_forest}
+use Rattle.swh_forest.specs.Sound.{IsLeaf, IsSound, IsSoundHere}
+use Rattle.swh_forest.proofs.Arenas.{tree-names}
+use Rattle.swh_forest.proofs.Canonical.{delete-here}
+use Rattle.swh_forest.proofs.EditedRoots.{root_flat, root_sound, deleted_one}
+use Rattle.swh_forest.proofs.Grafts.{forest-folder}
+use Rattle.swh_forest.proofs.Lookups.{found-append}
 use Rattle.swh_folders.proofs.Overwrites.{graft-last, found-graft, found-same, change-there}
-use Rattle.swh_folders.proofs.Puts.{set-here}
-use Rattle.swh_folders.proofs.Sounds.{forest-sound, folder-sound, into-sound}
+use Rattle.swh_forest.proofs.Puts.{set-here}
+use Rattle.swh_forest.proofs.Sounds.{forest-sound, folder-sound, into-sound}
 
 pub graft-sound : (p : List (List ℕ)) (x y : Stands) → AllByRecursion IsEntryName p → IsSoundHere x → IsSound (forest y) → IsSound (forest (graft p x y))
 graft-sound [] x y plain hx s = forest-sound x hx

@@ -1,10 +1,10 @@
 -- What is put at a path over what was put there before.
 use Rattle.std.proofs.Common.{◌≡◌, ℕ, Bool, true, false, cond, List, [], ◌∷◌, ◌++◌, refl, sym, ap, ◌∙◌}
 use Rattle.swh_entries.specs.declared.entry.Leaf.{Leaf}
-use Rattle.swh_folders.specs.Forest.{Forest, Bare, File, Folder, Stands, Nothing, IsFile, IsFolder, beside, child_at, without, key, inserted, put, folder, forest, step, found, graft}
+use Rattle.swh_forest.specs.Forest.{Forest, Bare, File, Folder, Stands, Nothing, IsFile, IsFolder, beside, child_at, without, key, inserted, put, folder, forest, step, found, graft}
 use Rattle.swh_entries.specs.Keys.{is_before}
-use Rattle.swh_folders.specs.PathMap.{same}
-use Rattle.swh_folders.proofs.Grafts.{same_self, without-same, forest-folder, put-same}
+use Rattle.swh_forest.specs.PathMap.{same}
+use Rattle.swh_forest.proofs.Grafts.{same_self, without-same, forest-folder, put-same}
 
 kept_file : (n c : List ℕ) (l : Leaf) (f : Forest) (b : Bool) → same n c ≡ b → cond b (IsFile l) (child_at c f) ≡ Nothing → (same n c ≡ false) × (child_at c f ≡ Nothing)
 kept_file n c l f true e h = absurd cc

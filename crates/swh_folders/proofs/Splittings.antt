@@ -5,7 +5,7 @@ use Rattle.std.proofs.lemmas.List.{get_or-drop, take-append-drop, length-drop}
 use Rattle.std.specs.List.{onto_first}
 use Rattle.swh_fastlex.specs.Path.{components}
 use Rattle.swh_fastlex.proofs.Components.{components_none}
-use Rattle.swh_folders.proofs.Components.{components-some}
+use Rattle.swh_forest.proofs.Components.{components-some}
 
 onto-more : (c : ℕ) (ps qs : List (List ℕ)) → ps ≢ [] → onto_first c (ps ++ qs) ≡ onto_first c ps ++ qs
 onto-more c [] qs ne = absurd (ne refl)

@@ -3,15 +3,15 @@ use Rattle.std.proofs.Common.{◌≡◌, ℕ, ◌≤◌, List, [], ◌∷◌, �
 use Rattle.std.specs.Global.{Vec}
 use Rattle.swh_entries.specs.Listed.{Listed}
 use Rattle.swh_folders.specs.declared.folders.Folders.{Folders}
-use Rattle.swh_folders.specs.Arena.{tree_at, forest_of, Grows}
+use Rattle.swh_forest.specs.Arena.{tree_at, forest_of, Grows}
 use Rattle.swh_entries.specs.Keys.{texts}
-use Rattle.swh_folders.specs.Roots.{IsGood, map_at, IsBelow, map_of_number}
+use Rattle.swh_forest.specs.Roots.{IsGood, map_at, IsBelow, map_of_number}
 use Rattle.swh_folders.specs.Working.{AreFolders, count_of, IsTallied, StaysBelow}
-use Rattle.swh_folders.proofs.Arenas.{arena-none, arena-push, sound-push, tree-push_old, tree-push_new}
+use Rattle.swh_forest.proofs.Arenas.{arena-none, arena-push, sound-push, tree-push_old, tree-push_new}
 use Rattle.std.proofs.lemmas.List.{length-append, length-take, take_at}
 use Rattle.swh_folders.proofs.Copies.{good-take, tree-take}
 use Rattle.swh_folders.proofs.Tallies.{tallied-on}
-use Rattle.swh_folders.specs.Forest.{Bare, flat}
+use Rattle.swh_forest.specs.Forest.{Bare, flat}
 
 pub good-none : IsGood [] []
 good-none = record { arena = arena-none; sound = λ i lt. absurd (omega arith) }

@@ -1,13 +1,4 @@
-pub mod Arena
-pub mod Forest
-pub mod Kept
-pub mod Leaf
 pub mod Live
 pub mod Moved
-pub mod Ordered
 pub mod Opened
-pub mod PathMap
-pub mod Roots
-pub mod Sound
-pub mod Transfer
 pub mod Working

@@ -4,8 +4,8 @@ use Rattle.swh_entries.specs.declared.entry.Child.{Child}
 use Rattle.swh_entries.specs.declared.entry.Child.TheVariants.{File as FileChild, Folder as FolderChild}
 use Rattle.swh_entries.specs.declared.entry.Entry.{Entry}
 use Rattle.swh_entries.specs.Listed.{Listed}
-use Rattle.swh_folders.specs.Arena.{IsLower}
-use Rattle.swh_folders.specs.Forest.{Forest, Stands, IsFolder, found}
+use Rattle.swh_forest.specs.Arena.{IsLower}
+use Rattle.swh_forest.specs.Forest.{Forest, Stands, IsFolder, found}
 
 -- whether the folder of this number is marked, where marks begin at the base
 abbrev pub is_live : ℕ → List Bool → ℕ → Bool

@@ -2,8 +2,8 @@
 use Rattle.std.specs.Prelude.{◌≡◌, ℕ, ◌+◌, ◌<◌, ◌≤◌, ◌++◌, Bool, true, List, length, take, slice_index_or}
 use Rattle.std.specs.Global.{Vec}
 use Rattle.swh_entries.specs.Listed.{Listed}
-use Rattle.swh_folders.specs.Arena.{tree_at, IsArena}
-use Rattle.swh_folders.specs.Forest.{Forest, Stands}
+use Rattle.swh_forest.specs.Arena.{tree_at, IsArena}
+use Rattle.swh_forest.specs.Forest.{Forest, Stands}
 use Rattle.swh_folders.specs.Live.{is_live, IsPart}
 
 -- Those below the base stay, and of the others the marked ones stand elsewhere below the bound.

@@ -10,12 +10,12 @@ use Rattle.swh_folders.specs.declared.opened.Opened.{Opened}
 use Rattle.swh_folders.specs.declared.opened.Start.{Start}
 use Rattle.swh_folders.specs.declared.opened.Start.TheVariants.{At, In}
 use Rattle.swh_entries.specs.Listed.{Listed}
-use Rattle.swh_folders.specs.Arena.{forest_of, tree_at, AreGood}
+use Rattle.swh_forest.specs.Arena.{forest_of, tree_at, AreGood}
 use Rattle.swh_entries.specs.Keys.{texts}
-use Rattle.swh_folders.specs.Forest.{Forest, Stands, IsFolder, put, folder, forest, found, graft, flat}
-use Rattle.swh_folders.specs.PathMap.{PathMap}
-use Rattle.swh_folders.specs.Roots.{IsBelow, root_forest}
-use Rattle.swh_folders.specs.Sound.{IsSound}
+use Rattle.swh_forest.specs.Forest.{Forest, Stands, IsFolder, put, folder, forest, found, graft, flat}
+use Rattle.swh_forest.specs.PathMap.{PathMap}
+use Rattle.swh_forest.specs.Roots.{IsBelow, root_forest}
+use Rattle.swh_forest.specs.Sound.{IsSound}
 use Rattle.swh_folders.specs.Working.{count_of, root_map, KeepsCounts, IsBounded}
 
 -- the components of the path of an open folder, which the root's own folder has none of

@@ -2,11 +2,11 @@
 use Rattle.std.specs.Prelude.{◌≡◌, ◌⊎◌, ℕ, ◌+◌, ◌*◌, ◌<◌, ◌≤◌, length, take, drop, Option}
 use Rattle.swh_entries.specs.Listed.{cost_of}
 use Rattle.swh_folders.specs.declared.folders.Folders.{Folders}
-use Rattle.swh_folders.specs.Arena.{tree_at}
-use Rattle.swh_folders.specs.Forest.{Forest, IsFolder}
+use Rattle.swh_forest.specs.Arena.{tree_at}
+use Rattle.swh_forest.specs.Forest.{Forest, IsFolder}
 use Rattle.swh_folders.specs.Live.{IsPart, AreWhole}
-use Rattle.swh_folders.specs.Roots.{map_of_number, IsGood, map_at, root_forest}
-use Rattle.swh_folders.specs.PathMap.{PathMap}
+use Rattle.swh_forest.specs.Roots.{map_of_number, IsGood, map_at, root_forest}
+use Rattle.swh_forest.specs.PathMap.{PathMap}
 
 -- Each folder is sound, and its own folders are below it.
 abbrev pub AreFolders : Folders → Type 0

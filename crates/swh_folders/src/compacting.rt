@@ -19,10 +19,10 @@ ghost use Rattle.std.specs.Prelude.{
 };
 ghost use Rattle.std.specs.Global.{Vec};
 ghost use Rattle.swh_entries.specs.declared.entry.Entry.{Entry};
-ghost use Rattle.swh_folders.specs.Forest.{Forest, Stands, IsFolder};
-ghost use Rattle.swh_folders.specs.Arena.{stands, forest_of, tree_at, AreGood, IsArena, IsLower};
+ghost use Rattle.swh_forest.specs.Forest.{Forest, Stands, IsFolder};
+ghost use Rattle.swh_forest.specs.Arena.{stands, forest_of, tree_at, AreGood, IsArena, IsLower};
 ghost use Rattle.swh_entries.specs.Keys.{texts};
-ghost use Rattle.swh_folders.specs.Roots.{IsGood};
+ghost use Rattle.swh_forest.specs.Roots.{IsGood};
 ghost use Rattle.swh_folders.specs.Live.{is_live, IsMarked, AreMarked, AreLower, IsClosed, IsPart, AreWhole};
 ghost use Rattle.swh_folders.specs.Moved.{AreMoved, IsCopied};
 

@@ -3,12 +3,12 @@
 ghost use Rattle.std.specs.Prelude.{◌≡◌, ◌≢◌, ◌≤◌, ◌+◌, ◌*◌, ◌++◌, [], ℕ, IsFalse, IfOk, IfSome, IfNone};
 ghost use Rattle.swh_entries.specs.Listed.{cost_of};
 ghost use Rattle.swh_entries.specs.Keys.{texts};
-ghost use Rattle.swh_folders.specs.Kept.{AreAmong};
-ghost use Rattle.swh_folders.specs.Roots.{IsBelow};
+ghost use Rattle.swh_forest.specs.Kept.{AreAmong};
+ghost use Rattle.swh_forest.specs.Roots.{IsBelow};
 ghost use Rattle.swh_fastlex.specs.Path.{components, IsPath};
-ghost use Rattle.swh_folders.specs.PathMap.{set, delete, held};
-ghost use Rattle.swh_folders.specs.Transfer.{transferred};
-ghost use Rattle.swh_folders.specs.Sound.{IsLeaf};
+ghost use Rattle.swh_forest.specs.PathMap.{set, delete, held};
+ghost use Rattle.swh_forest.specs.Transfer.{transferred};
+ghost use Rattle.swh_forest.specs.Sound.{IsLeaf};
 ghost use Rattle.swh_folders.specs.Working.{
   AreFolders,
   count_of,
@@ -22,9 +22,9 @@ ghost use Rattle.swh_folders.specs.Working.{
 };
 
 use crate::compacting::compact;
-use crate::edits::{Transfer, transfer_path};
 use std::alloc::{AllocError, Global};
 use swh_entries::{Known, Names, Packed};
+use swh_forest::{Transfer, transfer_path};
 
 /// How many folders more than twice those that are needed may stand, and how many entries more than three times those.
 const SPARE: usize = 65_536;

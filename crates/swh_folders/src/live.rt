@@ -4,9 +4,9 @@ ghost use Rattle.std.specs.Prelude.{◌≡◌, ◌⊎◌, ◌<◌, ◌≤◌, �
 ghost use Rattle.std.specs.Global.{Vec};
 ghost use Rattle.swh_entries.specs.declared.entry.Child.TheVariants.{Folder as FolderChild};
 ghost use Rattle.swh_entries.specs.declared.entry.Entry.{Entry};
-ghost use Rattle.swh_folders.specs.Arena.{tree_at, IsArena, IsLower};
-ghost use Rattle.swh_folders.specs.Forest.{IsFolder};
-ghost use Rattle.swh_folders.specs.Roots.{AreSound};
+ghost use Rattle.swh_forest.specs.Arena.{tree_at, IsArena, IsLower};
+ghost use Rattle.swh_forest.specs.Forest.{IsFolder};
+ghost use Rattle.swh_forest.specs.Roots.{AreSound};
 ghost use Rattle.swh_folders.specs.Live.{is_live, IsMarked, AreMarked, HasChild, AreLower, IsClosed, AreLiveParts};
 
 use std::alloc::{AllocError, Global};

@@ -5,15 +5,15 @@ ghost use Rattle.std.specs.Prelude.{◌≡◌, ◌≢◌, ◌≤◌, ◌∷◌, 
 ghost use Rattle.std.specs.Global.{Vec};
 ghost use Rattle.std.specs.List.{AllByRecursion};
 ghost use Rattle.swh_base.specs.Directory.{IsEntryName};
-ghost use Rattle.swh_folders.specs.Arena.{stands_of, forest_of, tree_at, AreGood, IsIn, Grows};
+ghost use Rattle.swh_forest.specs.Arena.{stands_of, forest_of, tree_at, AreGood, IsIn, Grows};
 ghost use Rattle.swh_entries.specs.Keys.{texts};
 ghost use Rattle.swh_entries.specs.Named.{Extends};
-ghost use Rattle.swh_folders.specs.Kept.{AreAmong, named};
-ghost use Rattle.swh_folders.specs.Forest.{Forest, Nothing, IsFolder, child_at, put, forest, found, flat};
-ghost use Rattle.swh_folders.specs.Roots.{IsBelow, IsGood, map_at, map_of_number, root_forest};
-ghost use Rattle.swh_folders.specs.PathMap.{set, delete, held};
-ghost use Rattle.swh_folders.specs.Transfer.{transferred};
-ghost use Rattle.swh_folders.specs.Sound.{IsLeaf, IsSoundHere};
+ghost use Rattle.swh_forest.specs.Kept.{AreAmong, named};
+ghost use Rattle.swh_forest.specs.Forest.{Forest, Nothing, IsFolder, child_at, put, forest, found, flat};
+ghost use Rattle.swh_forest.specs.Roots.{IsBelow, IsGood, map_at, map_of_number, root_forest};
+ghost use Rattle.swh_forest.specs.PathMap.{set, delete, held};
+ghost use Rattle.swh_forest.specs.Transfer.{transferred};
+ghost use Rattle.swh_forest.specs.Sound.{IsLeaf, IsSoundHere};
 ghost use Rattle.swh_fastlex.specs.Path.{components, IsPath};
 ghost use Rattle.swh_folders.specs.Working.{AreFolders, count_of, root_map, StaysBelow, IsTallied, KeepsCounts, IsBounded};
 ghost use Rattle.swh_folders.specs.Opened.{
@@ -31,14 +31,14 @@ ghost use Rattle.swh_folders.specs.Opened.{
   StaysBounded,
 };
 
-use crate::arena::{add_some, seal};
-use crate::edits::{Transfer, number_of, root_of, transfer_path};
 use crate::folders::{Folders, settled, transfer_in};
-use crate::node::{child_in, kept};
-use crate::path::{components_of, find, graft};
 use crate::splitting::{is_same_folder, split_path};
 use std::alloc::{AllocError, Global};
 use swh_entries::{Child, Leaf, Names, Packed};
+use swh_forest::{
+    Transfer, add_some, child_in, components_of, find, graft, kept, number_of, root_of, seal,
+    transfer_path,
+};
 
 /// A folder of a tree, open.
 pub struct Opened {

@@ -6,10 +6,10 @@ use Rattle.swh_folders.specs.declared.folders.Folders.{Folders}
 use Rattle.swh_folders.specs.declared.opened.Opened.{Opened}
 use Rattle.swh_folders.specs.declared.opened.Start.{Start}
 use Rattle.swh_folders.specs.declared.opened.Start.TheVariants.{At, In}
-use Rattle.swh_folders.specs.Forest.{flat}
+use Rattle.swh_forest.specs.Forest.{flat}
 use Rattle.swh_folders.specs.Opened.{root_of_start, IsStart, StaysBounded}
-use Rattle.swh_folders.specs.PathMap.{PathMap}
-use Rattle.swh_folders.specs.Roots.{IsBelow, root_forest}
+use Rattle.swh_forest.specs.PathMap.{PathMap}
+use Rattle.swh_forest.specs.Roots.{IsBelow, root_forest}
 use Rattle.swh_folders.specs.Working.{AreFolders, count_of, cost_from, folder_at, root_map, spare, KeepsCounts, AreNeeded, IsSetAnew, IsBounded as AreBounded}
 use Rattle.swh_trees.specs.declared.tree.Tree.{Tree}
 use Rattle.swh_trees.specs.Bound.{IsStill, IsCleared, IsBounded, IsEmptied}

@@ -10,12 +10,12 @@ use Rattle.swh_entries.specs.Keys.{name_at, texts}
 use Rattle.swh_entries.specs.Listed.{Listed, cost_of}
 use Rattle.swh_folders.specs.declared.folders.Folders.{Folders}
 use Rattle.swh_folders.specs.declared.opened.Opened.{Opened}
-use Rattle.swh_folders.specs.Arena.{stands, forest_of, tree_at}
-use Rattle.swh_folders.specs.Forest.{Forest, beside, flat}
+use Rattle.swh_forest.specs.Arena.{stands, forest_of, tree_at}
+use Rattle.swh_forest.specs.Forest.{Forest, beside, flat}
 use Rattle.swh_folders.specs.Live.{AreWhole}
-use Rattle.swh_folders.specs.PathMap.{PathMap}
+use Rattle.swh_forest.specs.PathMap.{PathMap}
 use Rattle.swh_folders.specs.Working.{AreFolders, count_of, cost_from, folder_at}
-use Rattle.swh_folders.proofs.Arenas.{tree-node}
+use Rattle.swh_forest.proofs.Arenas.{tree-node}
 use Rattle.swh_trees.specs.Bound.{entry_count, entries_from}
 use Rattle.swh_trees.specs.Directory.{depth_of}
 use Rattle.swh_trees.specs.Grove.{folder_map}

@@ -6,17 +6,17 @@ use Rattle.std.specs.declared.cmp.Ordering.{Ordering}
 use Rattle.std.specs.declared.cmp.Ordering.TheVariants.{Less, Equal, Greater}
 use Rattle.std.proofs.lemmas.Cmp.{nat_list_cmp_total}
 use Rattle.swh_entries.specs.declared.entry.Leaf.{Leaf}
-use Rattle.swh_folders.specs.Forest.{Forest, Bare, File, Folder, Stands, Nothing, IsFile, IsFolder, child_at, leaf_of, flat, shown}
+use Rattle.swh_forest.specs.Forest.{Forest, Bare, File, Folder, Stands, Nothing, IsFile, IsFolder, child_at, leaf_of, flat, shown}
 use Rattle.swh_entries.specs.Keys.{is_before}
 use Rattle.swh_trees.specs.Listing.{entry_here, directory}
-use Rattle.swh_folders.specs.PathMap.{same, PathMap, leaf_at, held_by}
-use Rattle.swh_folders.specs.Sound.{Follows, IsLeaf, IsSound}
+use Rattle.swh_forest.specs.PathMap.{same, PathMap, leaf_at, held_by}
+use Rattle.swh_forest.specs.Sound.{Follows, IsLeaf, IsSound}
 use Rattle.swh_trees.specs.Directory.{insert_entry, ordered, first, entry_at, directory_within, depth_of, directory_id, directory_of}
-use Rattle.swh_folders.specs.Leaf.{IsLeafMode}
+use Rattle.swh_forest.specs.Leaf.{IsLeafMode}
 use Rattle.swh_base.specs.declared.kind.Kind.{Kind}
 use Rattle.swh_base.specs.Directory.{DirectoryEntry, sort_key}
-use Rattle.swh_folders.proofs.Grafts.{same_is, same_self}
-use Rattle.swh_folders.proofs.Flats.{under, leaf-flat, held-by, flat-some}
+use Rattle.swh_forest.proofs.Grafts.{same_is, same_self}
+use Rattle.swh_forest.proofs.Flats.{under, leaf-flat, held-by, flat-some}
 
 -- ## The order
 

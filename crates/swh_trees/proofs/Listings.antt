@@ -13,23 +13,23 @@ use Rattle.swh_base.specs.Directory.{IsMode, AreEntries, sort_key}
 use Rattle.swh_dirfmt.specs.declared.entry.DirEntry.{DirEntry}
 use Rattle.swh_dirfmt.specs.Entries.{entry_views}
 use Rattle.swh_trees.specs.Held.{AreIds}
-use Rattle.swh_folders.specs.Leaf.{IsLeafMode}
+use Rattle.swh_forest.specs.Leaf.{IsLeafMode}
 use Rattle.swh_trees.specs.declared.fault.TreeFault.{TreeFault}
 use Rattle.swh_trees.specs.declared.fault.TreeFault.TheVariants.{Memory, TooLong}
 use Rattle.swh_trees.specs.Objects.{IsDirectoryObject, AreDirectoryObjects, ExplainsEntries, ExplainsAmong, GoesOn}
-use Rattle.swh_folders.specs.Sound.{IsSound, Follows}
+use Rattle.swh_forest.specs.Sound.{IsSound, Follows}
 use Rattle.swh_trees.proofs.Directories.{less_is, file-key}
-use Rattle.swh_folders.proofs.Sounds.{follows-back, other_file, other_folder}
-use Rattle.swh_folders.specs.PathMap.{same}
+use Rattle.swh_forest.proofs.Sounds.{follows-back, other_file, other_folder}
+use Rattle.swh_forest.specs.PathMap.{same}
 use Rattle.std.proofs.Math.Seq.{drop-cons}
 use Rattle.swh_entries.specs.declared.entry.Entry.{Entry}
 use Rattle.swh_entries.specs.declared.entry.Child.{Child}
 use Rattle.swh_entries.specs.declared.entry.Child.TheVariants.{File as FileChild, Folder as FolderChild}
-use Rattle.swh_folders.specs.Forest.{Forest, Bare, File, Folder, Nothing, child_at, beside}
+use Rattle.swh_forest.specs.Forest.{Forest, Bare, File, Folder, Nothing, child_at, beside}
 use Rattle.swh_entries.specs.Keys.{is_before, name_at}
 use Rattle.swh_trees.specs.Listing.{directory, entry_here}
 use Rattle.swh_base.specs.Directory.{DirectoryEntry}
-use Rattle.swh_folders.specs.Arena.{stands, forest_of}
+use Rattle.swh_forest.specs.Arena.{stands, forest_of}
 
 directory-beside : (id : List DirectoryEntry → List ℕ) (n : List ℕ) (k : Child) (at : ℕ → Forest) (f : Forest) → directory id (beside n (stands at k) f) ≡ entry_here id n (stands at k) ∷ directory id f
 directory-beside id n (FileChild l) at f = refl

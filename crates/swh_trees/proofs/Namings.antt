@@ -6,9 +6,9 @@ use Rattle.swh_folders.specs.declared.folders.Folders.{Folders}
 use Rattle.swh_folders.specs.declared.opened.Opened.{Opened}
 use Rattle.swh_folders.specs.declared.opened.Start.{Start}
 use Rattle.swh_folders.specs.declared.opened.Start.TheVariants.{At, In}
-use Rattle.swh_folders.specs.Kept.{AreAmong}
+use Rattle.swh_forest.specs.Kept.{AreAmong}
 use Rattle.swh_folders.specs.Opened.{open_path}
-use Rattle.swh_folders.proofs.Keeping.{among-self, among-none, among-on, among-left, among-right, among-both}
+use Rattle.swh_forest.proofs.Keeping.{among-self, among-none, among-on, among-left, among-right, among-both}
 use Rattle.swh_trees.specs.Grove.{Grove, kept_names}
 use Rattle.swh_trees.specs.Held.{grove, start_with, opened_of, opened_path}
 

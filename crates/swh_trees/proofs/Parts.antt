@@ -16,13 +16,13 @@ use Rattle.swh_trees.specs.declared.fault.TreeFault.{TreeFault}
 use Rattle.swh_trees.specs.declared.fault.TreeFault.TheVariants.{Memory, TooLong}
 use Rattle.swh_folders.specs.declared.folders.Folders.{Folders}
 use Rattle.swh_trees.specs.declared.tree.Tree.{Tree}
-use Rattle.swh_folders.specs.Arena.{stands, forest_of, tree_at, AreGood, IsLower}
+use Rattle.swh_forest.specs.Arena.{stands, forest_of, tree_at, AreGood, IsLower}
 use Rattle.swh_entries.specs.Keys.{name_at, texts}
 use Rattle.swh_trees.specs.Directory.{directory_id, directory_of}
-use Rattle.swh_folders.specs.Forest.{Forest, Stands, Nothing, IsFile, IsFolder, beside, child_at, forest, found, leaf_of, at, flat, shown}
+use Rattle.swh_forest.specs.Forest.{Forest, Stands, Nothing, IsFile, IsFolder, beside, child_at, forest, found, leaf_of, at, flat, shown}
 use Rattle.swh_trees.specs.Listing.{directory}
 use Rattle.swh_trees.specs.Grove.{Grove, StandsFor, Keeps, IsTree, folder_map, map_of}
-use Rattle.swh_folders.specs.Roots.{IsBelow, map_of_number, map_at, root_forest}
+use Rattle.swh_forest.specs.Roots.{IsBelow, map_of_number, map_at, root_forest}
 use Rattle.swh_folders.specs.declared.opened.Opened.{Opened}
 use Rattle.swh_folders.specs.declared.opened.Start.{Start}
 use Rattle.swh_folders.specs.declared.opened.Start.TheVariants.{At, In}
@@ -31,17 +31,17 @@ use Rattle.swh_trees.specs.Held.{AreIds, IsEmptyFolder, MayBeOpened, first_value
 use Rattle.swh_folders.specs.Live.{IsPart}
 use Rattle.swh_trees.specs.Makes.{IsFolderOf, IsNumbered, Makes, ExplainsTree}
 use Rattle.swh_trees.specs.Objects.{IsDirectoryObject, AreDirectoryObjects, ExplainsPart}
-use Rattle.swh_folders.specs.PathMap.{PathMap, same, leaf_at, held, HasFolder}
-use Rattle.swh_folders.specs.Sound.{IsSound, IsSoundHere}
+use Rattle.swh_forest.specs.PathMap.{PathMap, same, leaf_at, held, HasFolder}
+use Rattle.swh_forest.specs.Sound.{IsSound, IsSoundHere}
 use Rattle.swh_folders.specs.Working.{AreFolders, count_of, folder_at, root_map, StaysBelow}
-use Rattle.swh_folders.proofs.Arenas.{tree-node, entries-low}
-use Rattle.swh_folders.proofs.Canonical.{own-leaf}
-use Rattle.swh_folders.proofs.Flats.{HavePaths, paths-flat, flat-some}
+use Rattle.swh_forest.proofs.Arenas.{tree-node, entries-low}
+use Rattle.swh_forest.proofs.Canonical.{own-leaf}
+use Rattle.swh_forest.proofs.Flats.{HavePaths, paths-flat, flat-some}
 use Rattle.swh_trees.proofs.Directories.{directory-of}
 use Rattle.swh_folders.proofs.Lives.{part-sound}
-use Rattle.swh_folders.proofs.Lookups.{found-append, found-nothing, found-file, map-at}
-use Rattle.swh_folders.proofs.Puts.{held-root}
-use Rattle.swh_folders.proofs.Sounds.{found-sound, child-sound}
+use Rattle.swh_forest.proofs.Lookups.{found-append, found-nothing, found-file, map-at}
+use Rattle.swh_forest.proofs.Puts.{held-root}
+use Rattle.swh_forest.proofs.Sounds.{found-sound, child-sound}
 
 -- ## Folders of a folder and of its map
 

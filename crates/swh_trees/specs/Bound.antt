@@ -1,6 +1,6 @@
 -- How much stands in memory beside the folders whose objects were made, after changes of a tree.
 use Rattle.std.specs.Prelude.{◌≡◌, ◌⊎◌, ℕ, zero, suc, ◌+◌, ◌-◌, ◌*◌, ◌<◌, ◌≤◌, [], length}
-use Rattle.swh_folders.specs.PathMap.{PathMap}
+use Rattle.swh_forest.specs.PathMap.{PathMap}
 use Rattle.swh_trees.specs.Directory.{directory_within, depth_of}
 use Rattle.swh_trees.specs.Grove.{Grove, folder_map}
 use Rattle.swh_trees.specs.Makes.{IsFolderOf}

@@ -8,7 +8,7 @@ use Rattle.swh_base.specs.declared.kind.Kind.{Kind}
 use Rattle.swh_base.specs.declared.kind.Kind.TheVariants.{Directory}
 use Rattle.swh_base.specs.Directory.{DirectoryEntry, sort_key, directory_text}
 use Rattle.swh_entries.specs.declared.entry.Leaf.{Leaf}
-use Rattle.swh_folders.specs.PathMap.{PathMap, leaf_at, held_by}
+use Rattle.swh_forest.specs.PathMap.{PathMap, leaf_at, held_by}
 
 -- the id of a directory of these entries
 abbrev pub directory_id : (Kind → List ℕ → List ℕ) → List DirectoryEntry → List ℕ

@@ -1,8 +1,8 @@
 -- Trees as their callers see them: the folders by their numbers, each as the map of its paths.
 use Rattle.std.specs.Prelude.{◌≡◌, ℕ, ◌<◌, List, [], ◌++◌, length, slice_index_or}
 use Rattle.swh_trees.specs.declared.tree.Tree.{Tree}
-use Rattle.swh_folders.specs.PathMap.{PathMap}
-use Rattle.swh_folders.specs.Roots.{IsBelow, map_of_number}
+use Rattle.swh_forest.specs.PathMap.{PathMap}
+use Rattle.swh_forest.specs.Roots.{IsBelow, map_of_number}
 
 -- the map of each folder, in the order of their numbers, and of how many folders, the first ones, the objects were made; how many
 -- folders stand in memory, beside one that is open, and how many entries the lists of those without objects cost; and how many

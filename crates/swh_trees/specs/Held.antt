@@ -10,12 +10,12 @@ use Rattle.swh_folders.specs.declared.opened.Start.{Start}
 use Rattle.swh_folders.specs.declared.opened.Start.TheVariants.{At, In}
 use Rattle.swh_folders.specs.Working.{AreFolders, count_of, cost_from, folder_at, IsTallied}
 use Rattle.swh_trees.specs.Directory.{directory_id}
-use Rattle.swh_folders.specs.Forest.{Forest, Bare, flat}
+use Rattle.swh_forest.specs.Forest.{Forest, Bare, flat}
 use Rattle.swh_trees.specs.Listing.{directory}
-use Rattle.swh_folders.specs.PathMap.{PathMap}
+use Rattle.swh_forest.specs.PathMap.{PathMap}
 use Rattle.swh_entries.specs.Keys.{texts}
 use Rattle.swh_folders.specs.Opened.{folder_path, open_forest, IsOpened}
-use Rattle.swh_folders.specs.Roots.{map_at}
+use Rattle.swh_forest.specs.Roots.{map_at}
 use Rattle.swh_trees.specs.Grove.{Grove}
 
 -- the ids of the first folders

@@ -1,7 +1,7 @@
 -- The directory of a folder, entry by entry (git objects, tree).
 use Rattle.std.specs.Prelude.{ℕ, List, [], ◌∷◌}
 use Rattle.swh_base.specs.Directory.{DirectoryEntry}
-use Rattle.swh_folders.specs.Forest.{Forest, Bare, File, Folder, Stands, Nothing, IsFile, IsFolder}
+use Rattle.swh_forest.specs.Forest.{Forest, Bare, File, Folder, Stands, Nothing, IsFile, IsFolder}
 
 -- The entries of a folder, where `id` gives the ids of folders by their entries.
 abbrev pub directory : (List DirectoryEntry → List ℕ) → Forest → List DirectoryEntry

@@ -10,7 +10,7 @@ use Rattle.swh_trees.specs.declared.tree.Tree.{Tree}
 use Rattle.swh_trees.specs.Directory.{directory_id, directory_of}
 use Rattle.swh_trees.specs.Grove.{Grove, folder_map, StandsFor}
 use Rattle.swh_trees.specs.Objects.{AreDirectoryObjects}
-use Rattle.swh_folders.specs.PathMap.{PathMap, HasFolder, held}
+use Rattle.swh_forest.specs.PathMap.{PathMap, HasFolder, held}
 
 -- The second map is what a folder of the first holds.
 pub record IsFolderOf (m folder : PathMap) : Type 0 where

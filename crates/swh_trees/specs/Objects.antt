@@ -8,7 +8,7 @@ use Rattle.swh_base.specs.Limits.{body_limit}
 use Rattle.swh_trees.specs.declared.fault.TreeFault.{TreeFault}
 use Rattle.swh_trees.specs.declared.fault.TreeFault.TheVariants.{Memory, TooLong}
 use Rattle.swh_trees.specs.Directory.{directory_id}
-use Rattle.swh_folders.specs.Forest.{Forest, Stands}
+use Rattle.swh_forest.specs.Forest.{Forest, Stands}
 use Rattle.swh_trees.specs.Listing.{directory}
 use Rattle.swh_folders.specs.Live.{IsPart}
 

@@ -3,9 +3,9 @@
 ghost use Rattle.std.specs.Prelude.{◌≡◌, ◌<◌, ℕ, List, length, All, IfOk};
 ghost use Rattle.swh_base.specs.Directory.{DirectoryEntry};
 ghost use Rattle.swh_dirfmt.specs.Entries.{entry_view, entry_views};
-ghost use Rattle.swh_folders.specs.Arena.{stands, forest_of, AreGood, IsLower};
+ghost use Rattle.swh_forest.specs.Arena.{stands, forest_of, AreGood, IsLower};
 ghost use Rattle.swh_entries.specs.Keys.{name_at, texts};
-ghost use Rattle.swh_folders.specs.Forest.{Forest};
+ghost use Rattle.swh_forest.specs.Forest.{Forest};
 ghost use Rattle.swh_trees.specs.Listing.{directory, entry_here};
 ghost use Rattle.swh_trees.specs.Held.{AreIds};
 

@@ -2,9 +2,9 @@
 
 ghost use Rattle.std.specs.Prelude.{◌≡◌, ◌<◌, ◌≤◌, ◌+◌, ℕ, List, length, Option, IfOk, IfErr, OnOk, OnErr};
 ghost use Rattle.swh_trees.specs.Directory.{directory_id};
-ghost use Rattle.swh_folders.specs.Forest.{Bare, IsFolder};
+ghost use Rattle.swh_forest.specs.Forest.{Bare, IsFolder};
 ghost use Rattle.swh_trees.specs.Listing.{directory};
-ghost use Rattle.swh_folders.specs.Roots.{IsBelow, root_forest};
+ghost use Rattle.swh_forest.specs.Roots.{IsBelow, root_forest};
 ghost use Rattle.swh_trees.specs.Held.{AreIds, IsEmptyFolder};
 ghost use Rattle.swh_folders.specs.Live.{IsPart};
 ghost use Rattle.swh_trees.specs.Objects.{AreDirectoryObjects, ExplainsPart};

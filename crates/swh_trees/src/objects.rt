@@ -4,11 +4,11 @@ ghost use Rattle.std.specs.Prelude.{◌≡◌, ◌<◌, ◌≤◌, ◌+◌, ◌+
 ghost use Rattle.std.specs.Global.{Vec};
 ghost use Rattle.swh_base.specs.Directory.{DirectoryEntry, AreEntries};
 ghost use Rattle.swh_dirfmt.specs.Entries.{entry_views};
-ghost use Rattle.swh_folders.specs.Arena.{tree_at};
+ghost use Rattle.swh_forest.specs.Arena.{tree_at};
 ghost use Rattle.swh_trees.specs.Directory.{directory_id};
 ghost use Rattle.swh_trees.specs.Listing.{directory};
-ghost use Rattle.swh_folders.specs.Forest.{IsFolder};
-ghost use Rattle.swh_folders.specs.Roots.{IsGood};
+ghost use Rattle.swh_forest.specs.Forest.{IsFolder};
+ghost use Rattle.swh_forest.specs.Roots.{IsGood};
 ghost use Rattle.swh_trees.specs.Held.{AreIds};
 ghost use Rattle.swh_trees.specs.Objects.{
   IsDirectoryObject,

@@ -7,7 +7,8 @@ use std::alloc::Global;
 use std::marker::Model;
 use swh_base::{Memory, Namer};
 use swh_entries::{Leaf, whole_id};
-use swh_folders::{Folders, Opened, Start, Transfer, delete_in, root_from, set_in, transfer_from};
+use swh_folders::{Folders, Opened, Start, delete_in, root_from, set_in, transfer_from};
+use swh_forest::Transfer;
 use swh_object::Object;
 
 /// Trees that share the folders which they have in common, and the ids of the folders whose objects were made, by the
@@ -44,7 +45,7 @@ impl<N: Namer> Model for Trees<N> {
 }
 
 ghost use Rattle.std.specs.Prelude.{◌≡◌, ◌↔◌, None, Some, IsTrue, IfNone, IfSome};
-ghost use Rattle.swh_folders.specs.Roots.{IsBelow};
+ghost use Rattle.swh_forest.specs.Roots.{IsBelow};
 ghost use Rattle.swh_trees.specs.Held.{kept_number, kept_empty, count_with, start_with, opened_of};
 ghost use Rattle.swh_folders.specs.declared.folders.Folders.{Folders};
 ghost use Rattle.swh_folders.specs.Opened.{number_of_start};
@@ -128,14 +129,14 @@ impl<N: Namer> Trees<N> {
       OnErr,
     };
     ghost use Rattle.swh_entries.specs.Keys.{texts};
-    ghost use Rattle.swh_folders.specs.Kept.{AreAmong};
+    ghost use Rattle.swh_forest.specs.Kept.{AreAmong};
     ghost use Rattle.swh_trees.specs.Grove.{map_of, kept_names, IsTree, Keeps, StandsFor, no_trees};
     ghost use Rattle.swh_trees.specs.Bound.{IsStill, IsBounded, IsEmptied};
-    ghost use Rattle.swh_folders.specs.Leaf.{IsLeafMode};
+    ghost use Rattle.swh_forest.specs.Leaf.{IsLeafMode};
     ghost use Rattle.swh_trees.specs.Makes.{Makes, ExplainsTree};
     ghost use Rattle.swh_fastlex.specs.Path.{components, IsPath};
-    ghost use Rattle.swh_folders.specs.PathMap.{set, delete, copy, rename, held};
-    ghost use Rattle.swh_folders.specs.Transfer.{transferred};
+    ghost use Rattle.swh_forest.specs.PathMap.{set, delete, copy, rename, held};
+    ghost use Rattle.swh_forest.specs.Transfer.{transferred};
 
     /// No tree but the empty one.
     pub fn new(alloc: Global, namer: N) -> Trees<N>

@@ -4,7 +4,7 @@ use Rattle.swh_base.specs.declared.kind.Kind.TheVariants.{Revision}
 use Rattle.swh_base.specs.Name.{IsId}
 use Rattle.swh_base.specs.Manifest.{IsWellFormed}
 use Rattle.swh_revfmt.specs.Plain.{plain_revision_text}
-use Rattle.swh_folders.specs.Roots.{IsBelow}
+use Rattle.swh_forest.specs.Roots.{IsBelow}
 use Rattle.swh_fastmeaning.specs.Commands.{revision_parts}
 use Rattle.swh_fastload.specs.Committing.{GivesCommit, commit_made, rest_of}
 use Rattle.swh_fastmeaning.specs.Parting.{stock_of, ExplainsBody}

@@ -1,8 +1,8 @@
 use Rattle.std.proofs.Common.{◌≡◌, ◌+◌, ◌-◌, ◌<◌, ◌≤◌, ◌++◌, List, length, take, get_or, true, ap, ◌∙◌, arith}
 use Rattle.std.proofs.lemmas.List.{length-append, length-take, length-take-le, drop_all, drop_at, get_or_default}
 use Rattle.swh_entries.specs.Listed.{Listed}
-use Rattle.swh_folders.specs.Forest.{IsFolder}
-use Rattle.swh_folders.specs.Arena.{tree_at}
+use Rattle.swh_forest.specs.Forest.{IsFolder}
+use Rattle.swh_forest.specs.Arena.{tree_at}
 use Rattle.swh_folders.specs.Live.{is_live}
 use Rattle.swh_folders.proofs.Copies.{good-take, tree-take, tree-take-append, copied-good}
 use Rattle.swh_folders.proofs.compacting.compact.Goals as goal

@@ -1,7 +1,7 @@
 use Rattle.std.proofs.Common.{◌≡◌, ◌<◌, ◌≤◌, ℕ, List, length, true}
 use Rattle.std.specs.Global.{Vec}
-use Rattle.swh_folders.specs.Forest.{Stands}
-use Rattle.swh_folders.specs.Arena.{tree_at, IsArena}
+use Rattle.swh_forest.specs.Forest.{Stands}
+use Rattle.swh_forest.specs.Arena.{tree_at, IsArena}
 use Rattle.swh_folders.specs.Live.{is_live, IsClosed, IsPart, AreWhole}
 use Rattle.swh_folders.specs.Moved.{IsCopied}
 use Rattle.swh_folders.proofs.compacting.move_all.Given as goal

@@ -1,10 +1,10 @@
 use Rattle.std.proofs.Common.{rules, ◌≡◌, ◌+◌, ◌≤◌, ◌++◌, ℕ, length, take, get_or, true, sym, ap, subst, ◌∙◌, arith}
 use Rattle.std.proofs.lemmas.List.Elements.{All-push}
 use Rattle.swh_entries.specs.Listed.{Listed}
-use Rattle.swh_folders.specs.Arena.{tree_at, forest_of, AreGood}
+use Rattle.swh_forest.specs.Arena.{tree_at, forest_of, AreGood}
 use Rattle.swh_entries.specs.Keys.{texts}
 use Rattle.swh_folders.specs.Live.{AreMarked}
-use Rattle.swh_folders.proofs.Arenas.{tree-node, entries-good}
+use Rattle.swh_forest.proofs.Arenas.{tree-node, entries-good}
 use Rattle.swh_folders.proofs.Copies.{copied-more, copied-known, known-tree}
 use Rattle.swh_folders.proofs.compacting.move_one.Goals as goal
 

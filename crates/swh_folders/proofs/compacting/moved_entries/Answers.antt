@@ -1,6 +1,6 @@
 use Rattle.std.proofs.Common.{◌≡◌, take, refl, ap, ◌∙◌, arith}
 use Rattle.std.proofs.lemmas.List.{take_all}
-use Rattle.swh_folders.specs.Arena.{forest_of}
+use Rattle.swh_forest.specs.Arena.{forest_of}
 use Rattle.swh_folders.proofs.Moves.{forest-more, good-push, name-good}
 use Rattle.swh_folders.proofs.compacting.moved_entries.Goals as goal
 

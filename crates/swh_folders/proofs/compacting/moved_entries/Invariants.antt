@@ -1,6 +1,6 @@
 use Rattle.std.proofs.Common.{◌≡◌, ℕ, Bool, List, length, take}
-use Rattle.swh_folders.specs.Forest.{Forest}
-use Rattle.swh_folders.specs.Arena.{forest_of, AreGood}
+use Rattle.swh_forest.specs.Forest.{Forest}
+use Rattle.swh_forest.specs.Arena.{forest_of, AreGood}
 use Rattle.swh_folders.specs.Live.{AreMarked}
 use Rattle.swh_folders.specs.Moved.{AreMoved}
 use Rattle.swh_folders.proofs.compacting.moved_entries.Given as goal

@@ -1,8 +1,8 @@
 use Rattle.std.proofs.Common.{◌≡◌, ◌+◌, ◌≤◌, ℕ, List, length, true}
 use Rattle.std.specs.Global.{Vec}
-use Rattle.swh_folders.specs.Arena.{tree_at, IsArena}
-use Rattle.swh_folders.specs.Forest.{IsFolder}
-use Rattle.swh_folders.specs.Roots.{AreSound}
+use Rattle.swh_forest.specs.Arena.{tree_at, IsArena}
+use Rattle.swh_forest.specs.Forest.{IsFolder}
+use Rattle.swh_forest.specs.Roots.{AreSound}
 use Rattle.swh_folders.specs.Live.{is_live, IsClosed, AreLiveParts}
 use Rattle.swh_folders.proofs.live.live_of.Given as goal
 

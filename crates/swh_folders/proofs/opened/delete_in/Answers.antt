@@ -2,12 +2,12 @@ use Rattle.std.proofs.Common.{ℕ, List, subst, inr, ◌++◌, ap, ◌∙◌}
 use Rattle.std.specs.List.{AllByRecursion}
 use Rattle.swh_base.specs.Directory.{IsEntryName}
 use Rattle.swh_folders.specs.Opened.{lent_path, start_map, open_path, folder_path}
-use Rattle.swh_folders.proofs.Arenas.{if_ok}
+use Rattle.swh_forest.proofs.Arenas.{if_ok}
 use Rattle.swh_folders.proofs.Changes.{last-name}
 use Rattle.swh_folders.proofs.Closings.{stays-self, stays-names, bounded-names}
-use Rattle.swh_folders.proofs.Components.{path-names}
+use Rattle.swh_forest.proofs.Components.{path-names}
 use Rattle.swh_folders.proofs.Tallies.{tallied-same}
-use Rattle.swh_folders.proofs.Keeping.{among-on, among-left, front-among, path-among}
+use Rattle.swh_forest.proofs.Keeping.{among-on, among-left, front-among, path-among}
 use Rattle.swh_entries.specs.Keys.{texts}
 use Rattle.swh_fastlex.specs.Path.{components}
 use Rattle.swh_folders.proofs.opened.delete_in.Goals as goal

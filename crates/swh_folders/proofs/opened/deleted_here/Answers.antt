@@ -1,14 +1,14 @@
 use Rattle.std.proofs.Common.{◌≢◌, ◌∷◌, ◌++◌, [], sym, ◌∙◌, refl}
-use Rattle.swh_folders.specs.Arena.{tree_at}
+use Rattle.swh_forest.specs.Arena.{tree_at}
 use Rattle.swh_entries.specs.Keys.{texts}
-use Rattle.swh_folders.specs.Forest.{Nothing, child_at, flat}
+use Rattle.swh_forest.specs.Forest.{Nothing, child_at, flat}
 use Rattle.swh_folders.specs.Opened.{folder_path, own_forest, open_forest}
-use Rattle.swh_folders.proofs.Arenas.{if_ok3}
+use Rattle.swh_forest.proofs.Arenas.{if_ok3}
 use Rattle.swh_folders.proofs.Changes.{names-with, delete-in, delete-nothing}
-use Rattle.swh_folders.proofs.EditedRoots.{some-stands}
+use Rattle.swh_forest.proofs.EditedRoots.{some-stands}
 use Rattle.swh_folders.proofs.Openings.{stands-own}
-use Rattle.swh_folders.proofs.Orders.{ordered}
-use Rattle.swh_folders.proofs.Keeping.{among-self, kept-none}
+use Rattle.swh_forest.proofs.Orders.{ordered}
+use Rattle.swh_forest.proofs.Keeping.{among-self, kept-none}
 use Rattle.swh_folders.proofs.opened.deleted_here.Goals as goal
 
 pub child_in-requires-clause-ordered : goal.child_in-requires-clause-ordered

@@ -2,16 +2,16 @@ use Rattle.std.proofs.Common.{◌≡◌, ◌≢◌, ◌∷◌, ◌++◌, [], ℕ
 use Rattle.std.specs.List.{AllByRecursion}
 use Rattle.swh_base.specs.Directory.{IsEntryName}
 use Rattle.swh_fastlex.specs.Path.{components}
-use Rattle.swh_folders.specs.Arena.{stands_of, tree_at}
-use Rattle.swh_folders.specs.Forest.{Nothing, IsFolder, child_at, forest, found}
+use Rattle.swh_forest.specs.Arena.{stands_of, tree_at}
+use Rattle.swh_forest.specs.Forest.{Nothing, IsFolder, child_at, forest, found}
 use Rattle.swh_folders.specs.Opened.{lent_path, folder_path, own_forest}
-use Rattle.swh_folders.specs.Roots.{root_forest}
+use Rattle.swh_forest.specs.Roots.{root_forest}
 use Rattle.swh_folders.specs.Working.{root_map}
 use Rattle.swh_folders.proofs.Changes.{front-names, last-name, delete-in, stands-there}
-use Rattle.swh_folders.proofs.Components.{path-names}
-use Rattle.swh_folders.proofs.EditedRoots.{from-root, here-sound, deleted-none, some-stands}
+use Rattle.swh_forest.proofs.Components.{path-names}
+use Rattle.swh_forest.proofs.EditedRoots.{from-root, here-sound, deleted-none, some-stands}
 use Rattle.swh_folders.proofs.Openings.{stands-taken}
-use Rattle.swh_folders.proofs.Keeping.{among-none, front-among, path-among, among-self, kept-none}
+use Rattle.swh_forest.proofs.Keeping.{among-none, front-among, path-among, among-self, kept-none}
 use Rattle.swh_entries.specs.Keys.{texts}
 use Rattle.swh_folders.proofs.opened.deleted_there.Goals as goal
 

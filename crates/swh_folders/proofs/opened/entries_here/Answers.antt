@@ -1,8 +1,8 @@
 use Rattle.std.proofs.Common.{rules, ◌<◌, List, length, sym, ap, subst, ◌∙◌}
 use Rattle.swh_entries.specs.declared.entry.Entry.{Entry}
-use Rattle.swh_folders.specs.Arena.{forest_of, tree_at, AreGood}
+use Rattle.swh_forest.specs.Arena.{forest_of, tree_at, AreGood}
 use Rattle.swh_entries.specs.Keys.{texts}
-use Rattle.swh_folders.proofs.Arenas.{if_ok, tree-node, entries-good}
+use Rattle.swh_forest.proofs.Arenas.{if_ok, tree-node, entries-good}
 use Rattle.swh_folders.proofs.opened.entries_here.Goals as goal
 
 pub returns-in-Folder-clause-good : goal.returns-in-Folder-clause-good

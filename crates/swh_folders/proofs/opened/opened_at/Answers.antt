@@ -1,11 +1,11 @@
 use Rattle.std.proofs.Common.{ℕ, List, sym, ap, ◌∙◌, refl}
-use Rattle.swh_folders.specs.Arena.{tree_at}
-use Rattle.swh_folders.specs.Forest.{IsFolder, forest, found}
-use Rattle.swh_folders.specs.Roots.{root_forest}
+use Rattle.swh_forest.specs.Arena.{tree_at}
+use Rattle.swh_forest.specs.Forest.{IsFolder, forest, found}
+use Rattle.swh_forest.specs.Roots.{root_forest}
 use Rattle.swh_folders.specs.Working.{root_map}
-use Rattle.swh_folders.proofs.Arenas.{if_ok3}
+use Rattle.swh_forest.proofs.Arenas.{if_ok3}
 use Rattle.swh_folders.proofs.Openings.{stands-own, stands-taken}
-use Rattle.swh_folders.proofs.Keeping.{among-left}
+use Rattle.swh_forest.proofs.Keeping.{among-left}
 use Rattle.swh_entries.specs.Keys.{texts}
 use Rattle.swh_folders.specs.Opened.{open_path}
 use Rattle.swh_folders.proofs.opened.opened_at.Goals as goal

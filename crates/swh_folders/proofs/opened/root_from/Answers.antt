@@ -1,6 +1,6 @@
 use Rattle.std.proofs.Common.{refl}
 use Rattle.swh_folders.proofs.Workings.{stays-same, stays-grown, tallied-grown}
-use Rattle.swh_folders.proofs.Keeping.{among-left}
+use Rattle.swh_forest.proofs.Keeping.{among-left}
 use Rattle.swh_entries.specs.Keys.{texts}
 use Rattle.swh_folders.specs.Opened.{open_path}
 use Rattle.swh_folders.proofs.opened.root_from.Goals as goal

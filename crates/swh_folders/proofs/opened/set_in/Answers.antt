@@ -3,12 +3,12 @@ use Rattle.std.specs.List.{AllByRecursion}
 use Rattle.swh_base.specs.Directory.{IsEntryName}
 use Rattle.swh_fastlex.specs.Path.{components}
 use Rattle.swh_folders.specs.Opened.{lent_path, folder_path, start_map, StaysBounded, open_path}
-use Rattle.swh_folders.proofs.Arenas.{if_ok, if_ok3}
+use Rattle.swh_forest.proofs.Arenas.{if_ok, if_ok3}
 use Rattle.swh_folders.proofs.Changes.{front-names, last-name, set-in}
 use Rattle.swh_folders.proofs.Closings.{stays-names, bounded-names}
-use Rattle.swh_folders.proofs.Components.{path-names}
+use Rattle.swh_forest.proofs.Components.{path-names}
 use Rattle.swh_folders.proofs.Tallies.{tallied-same}
-use Rattle.swh_folders.proofs.Keeping.{among-left, kept-wider, kept-then, last-among, front-among, path-among}
+use Rattle.swh_forest.proofs.Keeping.{among-left, kept-wider, kept-then, last-among, front-among, path-among}
 use Rattle.swh_entries.specs.Keys.{texts}
 use Rattle.swh_folders.proofs.opened.set_in.Goals as goal
 

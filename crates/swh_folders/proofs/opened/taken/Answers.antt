@@ -1,8 +1,8 @@
 use Rattle.std.proofs.Common.{length, ap, ◌∙◌}
 use Rattle.swh_fastlex.specs.Path.{components}
-use Rattle.swh_folders.specs.Arena.{stands_of, tree_at}
-use Rattle.swh_folders.specs.Forest.{forest}
-use Rattle.swh_folders.specs.Roots.{root_forest}
+use Rattle.swh_forest.specs.Arena.{stands_of, tree_at}
+use Rattle.swh_forest.specs.Forest.{forest}
+use Rattle.swh_forest.specs.Roots.{root_forest}
 use Rattle.swh_folders.proofs.Closings.{found-here}
 use Rattle.swh_folders.proofs.opened.taken.Goals as goal
 

@@ -1,8 +1,8 @@
 use Rattle.std.proofs.Common.{rules, ◌≡◌, ℕ, length, take, refl, ap, ◌∙◌, ◌++◌}
-use Rattle.swh_folders.specs.Forest.{flat}
+use Rattle.swh_forest.specs.Forest.{flat}
 use Rattle.swh_folders.proofs.Changes.{IsAgain, open-again, opened-again, stays-again}
 use Rattle.swh_folders.proofs.Tallies.{tallied-same}
-use Rattle.swh_folders.proofs.Keeping.{among-left}
+use Rattle.swh_forest.proofs.Keeping.{among-left}
 use Rattle.swh_entries.specs.Keys.{texts}
 use Rattle.swh_folders.specs.Opened.{folder_path}
 use Rattle.swh_fastlex.specs.Path.{components}

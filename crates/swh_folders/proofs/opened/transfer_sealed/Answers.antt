@@ -1,13 +1,13 @@
 use Rattle.std.proofs.Common.{◌≡◌, ◌≢◌, [], ap, subst, ◌∙◌, ◌++◌}
 use Rattle.std.specs.Prelude.{IfOk, IfSome, IfNone}
 use Rattle.swh_fastlex.specs.Path.{components}
-use Rattle.swh_folders.specs.Forest.{flat}
-use Rattle.swh_folders.specs.PathMap.{PathMap, held}
-use Rattle.swh_folders.specs.Roots.{map_of_number, map_at}
-use Rattle.swh_folders.specs.Transfer.{transferred}
-use Rattle.swh_folders.proofs.EditedRoots.{root_flat}
-use Rattle.swh_folders.proofs.Walks.{grows-more}
-use Rattle.swh_folders.proofs.Keeping.{among-left, kept-wider, kept-then}
+use Rattle.swh_forest.specs.Forest.{flat}
+use Rattle.swh_forest.specs.PathMap.{PathMap, held}
+use Rattle.swh_forest.specs.Roots.{map_of_number, map_at}
+use Rattle.swh_forest.specs.Transfer.{transferred}
+use Rattle.swh_forest.proofs.EditedRoots.{root_flat}
+use Rattle.swh_forest.proofs.Walks.{grows-more}
+use Rattle.swh_forest.proofs.Keeping.{among-left, kept-wider, kept-then}
 use Rattle.swh_entries.specs.Keys.{texts}
 use Rattle.swh_folders.specs.Opened.{folder_path}
 use Rattle.swh_folders.proofs.opened.transfer_sealed.Goals as goal

@@ -4,7 +4,7 @@ use Rattle.std.proofs.lemmas.List.Elements.{All-push}
 use Rattle.swh_base.specs.Directory.{DirectoryEntry}
 use Rattle.swh_dirfmt.specs.declared.entry.DirEntry.{DirEntry}
 use Rattle.swh_dirfmt.specs.Entries.{entry_view, entry_views}
-use Rattle.swh_folders.specs.Arena.{forest_of}
+use Rattle.swh_forest.specs.Arena.{forest_of}
 use Rattle.swh_entries.specs.Keys.{texts}
 use Rattle.swh_trees.specs.Listing.{directory}
 use Rattle.swh_trees.proofs.Listings.{directory-more}

@@ -2,9 +2,9 @@ use Rattle.std.proofs.Common.{◌≡◌, ◌++◌, ℕ, List, drop, length}
 use Rattle.std.specs.Prelude.{All}
 use Rattle.swh_base.specs.Directory.{DirectoryEntry}
 use Rattle.swh_dirfmt.specs.Entries.{entry_views}
-use Rattle.swh_folders.specs.Arena.{forest_of}
+use Rattle.swh_forest.specs.Arena.{forest_of}
 use Rattle.swh_entries.specs.Keys.{texts}
-use Rattle.swh_folders.specs.Forest.{Forest}
+use Rattle.swh_forest.specs.Forest.{Forest}
 use Rattle.swh_trees.specs.Listing.{directory}
 use Rattle.swh_trees.specs.Held.{AreIds}
 use Rattle.swh_trees.proofs.directory.listing.Given as goal

@@ -1,7 +1,7 @@
 use Rattle.std.proofs.Common.{rules, ◌≡◌, ◌+◌, ◌<◌, ◌∷◌, [], ℕ, length, sym, ap, subst, ◌∙◌, arith}
 use Rattle.std.proofs.lemmas.List.{length-append}
 use Rattle.std.proofs.lemmas.Result.{err_from_is_err_and}
-use Rattle.swh_folders.specs.Arena.{tree_at}
+use Rattle.swh_forest.specs.Arena.{tree_at}
 use Rattle.swh_trees.specs.Directory.{directory_id}
 use Rattle.swh_trees.specs.Listing.{directory}
 use Rattle.swh_trees.specs.Objects.{IsDirectoryObject}

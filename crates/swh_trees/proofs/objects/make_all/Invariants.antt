@@ -1,5 +1,5 @@
 use Rattle.std.proofs.Common.{◌≡◌, ◌+◌, ◌-◌, ◌≤◌, length}
-use Rattle.swh_folders.specs.Arena.{tree_at}
+use Rattle.swh_forest.specs.Arena.{tree_at}
 use Rattle.swh_trees.specs.Directory.{directory_id}
 use Rattle.swh_trees.specs.Listing.{directory}
 use Rattle.swh_trees.specs.Held.{AreIds}

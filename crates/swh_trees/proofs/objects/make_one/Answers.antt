@@ -4,11 +4,11 @@ use Rattle.std.proofs.lemmas.Result.{err_from_is_err_and}
 use Rattle.swh_base.specs.Directory.{DirectoryEntry}
 use Rattle.swh_dirfmt.specs.declared.entry.DirEntry.{DirEntry}
 use Rattle.swh_dirfmt.specs.Entries.{entry_views}
-use Rattle.swh_folders.specs.Arena.{tree_at, AreGood}
+use Rattle.swh_forest.specs.Arena.{tree_at, AreGood}
 use Rattle.swh_trees.specs.Directory.{directory_id}
 use Rattle.swh_trees.specs.Listing.{directory}
 use Rattle.swh_trees.specs.Objects.{IsDirectoryObject, ExplainsEntries}
-use Rattle.swh_folders.proofs.Arenas.{entries-low, tree-node}
+use Rattle.swh_forest.proofs.Arenas.{entries-low, tree-node}
 use Rattle.swh_trees.proofs.Listings.{listed-entries, ids-push}
 use Rattle.swh_trees.proofs.objects.make_one.Goals as goal
 

@@ -1,16 +1,16 @@
 use Rattle.std.proofs.Common.{◌≡◌, ap, sym, subst, ◌∙◌, List, length}
 use Rattle.swh_entries.specs.declared.entry.Entry.{Entry}
-use Rattle.swh_folders.specs.Arena.{stands_of, forest_of, tree_at, AreGood, entries_without}
+use Rattle.swh_forest.specs.Arena.{stands_of, forest_of, tree_at, AreGood, entries_without}
 use Rattle.swh_entries.specs.Keys.{texts}
-use Rattle.swh_folders.specs.Sound.{IsSound}
-use Rattle.swh_folders.proofs.Arenas.{names-in_range}
+use Rattle.swh_forest.specs.Sound.{IsSound}
+use Rattle.swh_forest.proofs.Arenas.{names-in_range}
 use Rattle.swh_folders.proofs.Closings.{edited-own}
-use Rattle.swh_folders.proofs.Ordering.{left-ordered}
-use Rattle.swh_folders.proofs.Orders.{ordered}
-use Rattle.swh_folders.proofs.Sounds.{put-sound}
-use Rattle.swh_folders.proofs.Steps.{forest-without, without-good}
-use Rattle.swh_folders.proofs.Keeping.{among-left}
-use Rattle.swh_folders.specs.Kept.{named}
+use Rattle.swh_forest.proofs.Ordering.{left-ordered}
+use Rattle.swh_forest.proofs.Orders.{ordered}
+use Rattle.swh_forest.proofs.Sounds.{put-sound}
+use Rattle.swh_forest.proofs.Steps.{forest-without, without-good}
+use Rattle.swh_forest.proofs.Keeping.{among-left}
+use Rattle.swh_forest.specs.Kept.{named}
 use Rattle.swh_folders.proofs.opened.Opened.edited.Goals as goal
 
 pub kept-requires-clause-ordered : goal.kept-requires-clause-ordered

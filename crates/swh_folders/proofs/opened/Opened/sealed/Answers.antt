@@ -1,13 +1,13 @@
 use Rattle.std.proofs.Common.{length, ap, ◌∙◌}
-use Rattle.swh_folders.specs.Arena.{stands_of, forest_of, tree_at}
+use Rattle.swh_forest.specs.Arena.{stands_of, forest_of, tree_at}
 use Rattle.swh_entries.specs.Keys.{texts}
-use Rattle.swh_folders.specs.Forest.{Stands, folder, forest, graft}
+use Rattle.swh_forest.specs.Forest.{Stands, folder, forest, graft}
 use Rattle.swh_fastlex.specs.Path.{components}
-use Rattle.swh_folders.specs.Roots.{root_forest}
+use Rattle.swh_forest.specs.Roots.{root_forest}
 use Rattle.swh_folders.proofs.Closings.{graft-here, root-grown}
-use Rattle.swh_folders.proofs.Walks.{grows-more}
+use Rattle.swh_forest.proofs.Walks.{grows-more}
 use Rattle.swh_folders.proofs.Workings.{below-grown}
-use Rattle.swh_folders.proofs.Keeping.{among-left}
+use Rattle.swh_forest.proofs.Keeping.{among-left}
 use Rattle.swh_folders.specs.Opened.{folder_path}
 use Rattle.swh_folders.proofs.opened.Opened.sealed.Goals as goal
 

@@ -1,12 +1,12 @@
 use Rattle.std.proofs.Common.{rules, ◌≡◌, length, ap, ◌∙◌, sym}
 use Rattle.swh_fastlex.specs.Path.{components}
-use Rattle.swh_folders.specs.PathMap.{delete}
+use Rattle.swh_forest.specs.PathMap.{delete}
 use Rattle.swh_folders.specs.Opened.{root_of_start, open_path}
 use Rattle.swh_folders.specs.Working.{count_of}
 use Rattle.swh_folders.proofs.Workings.{stays-on}
 use Rattle.swh_trees.proofs.Bounds.{start-root, stays-seen, emptied}
 use Rattle.swh_trees.proofs.Parts.{keeps-seen, stands-start, start-of}
-use Rattle.swh_folders.proofs.Keeping.{among-none, path-among}
+use Rattle.swh_forest.proofs.Keeping.{among-none, path-among}
 use Rattle.swh_trees.specs.Held.{opened_of, opened_path}
 use Rattle.swh_trees.proofs.Namings.{start-path, path-opened, names-kept}
 use Rattle.swh_trees.proofs.trees.Trees.delete.Goals as goal

@@ -1,7 +1,7 @@
 use Rattle.std.proofs.Common.{rules, ◌≡◌, ℕ, length, sym, subst}
 use Rattle.swh_trees.specs.Grove.{Grove, IsTree}
 use Rattle.swh_trees.specs.Held.{count_with}
-use Rattle.swh_folders.specs.Roots.{IsBelow}
+use Rattle.swh_forest.specs.Roots.{IsBelow}
 use Rattle.swh_trees.proofs.Parts.{tree-seen, tree-is}
 use Rattle.swh_trees.proofs.trees.Trees.has.Goals as goal
 

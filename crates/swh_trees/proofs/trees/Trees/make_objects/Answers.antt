@@ -1,7 +1,7 @@
 use Rattle.std.proofs.Common.{rules, ◌≡◌, [], ℕ, length, None, sym, ap, subst, ◌∙◌, arith}
 use Rattle.swh_trees.specs.Grove.{Grove, Keeps, map_of}
 use Rattle.swh_trees.specs.Held.{grove}
-use Rattle.swh_folders.specs.PathMap.{PathMap}
+use Rattle.swh_forest.specs.PathMap.{PathMap}
 use Rattle.swh_folders.specs.Working.{IsTallied, StaysBelow, count_of, root_map, folder_at}
 use Rattle.std.proofs.lemmas.List.{get_or_default}
 use Rattle.std.proofs.lemmas.Result.{err_from_is_err_and}

@@ -2,12 +2,12 @@ use Rattle.std.proofs.Common.{rules, ◌≡◌, ℕ, List, length, ap, ◌∙◌
 use Rattle.swh_fastlex.specs.Path.{components}
 use Rattle.swh_entries.specs.declared.entry.Leaf.{Leaf}
 use Rattle.swh_folders.specs.Opened.{start_map, open_path, folder_path}
-use Rattle.swh_folders.specs.PathMap.{set}
+use Rattle.swh_forest.specs.PathMap.{set}
 use Rattle.swh_folders.specs.Working.{count_of}
 use Rattle.swh_folders.proofs.Workings.{stays-on}
 use Rattle.swh_trees.proofs.Bounds.{stays-seen, emptied}
 use Rattle.swh_trees.proofs.Parts.{keeps-seen, stands-open, start-of}
-use Rattle.swh_folders.proofs.Keeping.{among-none, among-on, among-right}
+use Rattle.swh_forest.proofs.Keeping.{among-none, among-on, among-right}
 use Rattle.swh_trees.proofs.Namings.{start-path, names-changed}
 use Rattle.swh_trees.proofs.trees.Trees.set.Goals as goal
 

@@ -1,16 +1,16 @@
 use Rattle.std.proofs.Common.{rules, ◌≡◌, ◌≢◌, [], length, ap, sym, subst, ◌∙◌, ◌++◌, None}
 use Rattle.swh_fastlex.specs.Path.{components}
-use Rattle.swh_folders.specs.PathMap.{PathMap, held}
-use Rattle.swh_folders.specs.Transfer.{transferred}
+use Rattle.swh_forest.specs.PathMap.{PathMap, held}
+use Rattle.swh_forest.specs.Transfer.{transferred}
 use Rattle.swh_folders.specs.Working.{count_of}
 use Rattle.swh_folders.proofs.Workings.{stays-on}
 use Rattle.swh_trees.proofs.Bounds.{bounded-seen, still-seen, emptied}
 use Rattle.swh_trees.proofs.Parts.{keeps-seen, number-start, stands-for, stands-start, start-of}
 use Rattle.swh_folders.specs.Opened.{open_path}
-use Rattle.swh_folders.proofs.Keeping.{among-none, among-left, path-among}
+use Rattle.swh_forest.proofs.Keeping.{among-none, among-left, path-among}
 use Rattle.swh_trees.specs.Held.{opened_of, opened_path}
 use Rattle.swh_trees.proofs.Namings.{start-path, path-opened, names-changed}
-use Rattle.swh_folders.specs.Kept.{AreAmong}
+use Rattle.swh_forest.specs.Kept.{AreAmong}
 use Rattle.swh_trees.proofs.trees.Trees.transfer.Goals as goal
 
 pub transfer_from-requires-clause-start : goal.transfer_from-requires-clause-start

@@ -1,0 +1,16 @@
+pub mod Grafts
+pub mod Steps
+pub mod Arenas
+pub mod Walks
+pub mod Sounds
+pub mod Flats
+pub mod Lookups
+pub mod Canonical
+pub mod Puts
+pub mod Components
+pub mod EditedRoots
+pub mod Orders
+pub mod Gaps
+pub mod Ordering
+pub mod Options
+pub mod Keeping

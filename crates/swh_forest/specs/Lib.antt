@@ -1,0 +1,9 @@
+pub mod Arena
+pub mod Forest
+pub mod Kept
+pub mod Leaf
+pub mod Ordered
+pub mod PathMap
+pub mod Roots
+pub mod Sound
+pub mod Transfer
