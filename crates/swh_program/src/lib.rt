@@ -6,37 +6,24 @@
 //! command does is a record of its own (`Does` in specs/Commands.antt names them).
 #![tactic(auto)]
 
-mod answer;
 mod ask_command;
 mod check_command;
 mod cook_command;
-mod damage;
-mod files;
-mod identify_command;
-mod identify_folder_command;
 mod init_command;
 mod job_inputs;
 mod job_reading;
 mod limits;
 mod load_command;
-mod opening;
 mod outside;
 mod own;
 mod reading;
 mod telling;
-mod text;
 mod top;
 
-pub use answer::{Answer, Ending, tell};
-pub use files::{ArchiveFiles, close_files, open_files};
-pub use identify_command::identify;
-pub use identify_folder_command::identify_folder;
 pub use init_command::init;
 pub use job_reading::read_jobs;
 pub use limits::limits_in_numbers;
-pub use opening::{close_archive, open_archive};
 pub use outside::{Outside, Shown};
 pub use own::{own_files_outlast_crashes, usable_images_are_own};
 pub use reading::{Reading, read_archive};
-pub use text::Text;
 pub use top::run;
