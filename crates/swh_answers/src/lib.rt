@@ -3,8 +3,8 @@
 //! Stands on `swh_keeper` and `swh_segment` for the archive, on `swh_outside`, on `swh_swhid` and `itoa` for what is
 //! told, and on crates below these whose types and definitions its clauses cite.
 //! Callers may rely on: an answer is printed with its status, or the sink has failed (`tell`); an archive that opens
-//! stands for its history, and one that is refused is left as its answer says (`open_archive`); own files stay own
-//! (`close_archive`).
+//! stands for its history, and one that is refused is left as its answer says (`open_archive`); one that is given back is
+//! own (`close_archive`).
 #![tactic(auto)]
 
 mod answer;
