@@ -24,7 +24,7 @@ unloaded_cases id_of tells old new _ is = inr is
 pub unloaded_clock : (id_of : Kind → List ℕ → List ℕ) (tells : Type 0) (old new : Files) (answer : Answer) → answer ≡ OutsideClock → IsUnloaded id_of tells old new answer → tells → IsOpenedArchive id_of old new
 unloaded_clock id_of tells old new answer clock is = subst (IsUnloaded id_of tells old new) clock is
 
--- a load does not name the folder, and does not name the yard
+-- a load names neither the folder nor the yard
 module _ (g : Givens) (desk_at : FileAt) (path : List ℕ) (old new : Files) where
   none_of_load : LoadEnds g desk_at path old new OutsideFolder → ⊥
   none_of_load (inl run) = elim run.outcome [
