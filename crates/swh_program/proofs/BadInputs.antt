@@ -25,7 +25,7 @@ use Rattle.swh_program.specs.Complete.{HasBodyOrMakes}
 use Rattle.swh_program.specs.Inputs.{Inputs, input_of, IsInputEnd}
 use Rattle.swh_program.specs.JobLoad.{attempt_for, IsJobOutcome, IsJobLoad}
 use Rattle.swh_program.specs.Lines.{LoadedJob, outcomes, ending_of_end, ending_for, ending_of_all}
-use Rattle.swh_program.specs.declared.answer.Ending.TheVariants as ending
+use Rattle.swh_answers.specs.declared.answer.Ending.TheVariants as ending
 use Rattle.swh_program.proofs.Elements.{from_map}
 use Rattle.swh_program.proofs.LoadEndings.{both_done, why_undone}
 

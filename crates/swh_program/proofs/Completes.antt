@@ -1,20 +1,17 @@
 -- Where nothing stands against a command, it is done, or memory runs out.
 use Rattle.std.proofs.Common.{◌≡◌, ◌⊎◌, inl, inr, ℕ, List, ◌++◌, refl, ap, ◌∙◌}
 use Rattle.swh_outside.specs.Files.{Files}
-use Rattle.swh_program.specs.Seen.{Span, SinkFailed}
-use Rattle.swh_program.specs.Answers.{status_of, printed_by, last_line_of, IsPrinted}
+use Rattle.swh_answers.specs.Seen.{Span, SinkFailed}
+use Rattle.swh_answers.specs.Answers.{status_of, last_line_of, IsPrinted}
 use Rattle.swh_segment.specs.Making.{IsNotMade}
 use Rattle.swh_program.specs.InitCommand.{InitEnds}
-use Rattle.swh_program.specs.Run.{IsTold, IsPrintedWith, IsPrintedUnlessFailed}
-use Rattle.swh_program.specs.declared.answer.Answer.{Answer}
-use Rattle.swh_program.specs.declared.answer.Answer.TheVariants.{Made, AlreadyMade, OutsideDisk, Memory}
+use Rattle.swh_answers.specs.Run.{IsTold, IsPrintedWith, IsPrintedUnlessFailed}
+use Rattle.swh_answers.specs.declared.answer.Answer.{Answer}
+use Rattle.swh_answers.specs.declared.answer.Answer.TheVariants.{Made, AlreadyMade, OutsideDisk, Memory}
+use Rattle.swh_answers.proofs.Statuses.{Tells}
 use Rattle.swh_program.proofs.Archived.{not_both}
 
--- what an answer says, where it is done or memory ran out
-abbrev pub Tells : List ℕ → ℕ → Answer → Type 0
-Tells line expected answer = (status_of answer ≡ 5) ⊎ ((status_of answer ≡ expected) × (printed_by answer ≡ line))
-
--- and so says the run that printed it
+-- what an answer says, the run that printed it says
 module _ (line : List ℕ) (expected : ℕ) (answer : Answer) (s : Span) (status : ℕ) where
   printed_with : Tells line expected answer → IsPrinted answer s.told.sink s.old.sink.taken s.new.sink.taken status → IsPrintedWith line expected s status
   printed_with (inl memory) printed = inl (printed.status_is ∙ memory)

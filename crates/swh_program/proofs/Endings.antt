@@ -17,9 +17,9 @@ use Rattle.swh_pool.specs.Stops.{IsUnwounded, is_disk_fault, AreStops}
 use Rattle.swh_pool.specs.declared.dated.DatedJob.{DatedJob}
 use Rattle.swh_program.specs.Lines.{LoadedJob, outcomes, load_line, ending_of_end, ending_of_why, ending_for, worse, ending_of_all, TellsLoads, TellsLoad}
 use Rattle.swh_program.specs.Telling.{TellsReport}
-use Rattle.swh_program.specs.declared.answer.Ending.{Ending}
-use Rattle.swh_program.specs.declared.answer.Ending.TheVariants as ending
-use Rattle.swh_program.specs.declared.answer.Answer.{Answer}
+use Rattle.swh_answers.specs.declared.answer.Ending.{Ending}
+use Rattle.swh_answers.specs.declared.answer.Ending.TheVariants as ending
+use Rattle.swh_answers.specs.declared.answer.Answer.{Answer}
 use Rattle.swh_program.proofs.Inputs.{url_and_outcome}
 
 -- a disk is told only where one of the two is a disk's

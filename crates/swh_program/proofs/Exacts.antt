@@ -1,19 +1,16 @@
 -- Each status comes exactly of its causes.
-use Rattle.std.proofs.Common.{◌≡◌, ◌⊎◌, inl, inr, ℕ, ◌<◌, ◌≤◌, List, refl, arith}
+use Rattle.std.proofs.Common.{◌⊎◌, inl, inr, ℕ, ◌<◌, ◌≤◌, List, refl, arith}
 use Rattle.swh_base.specs.declared.kind.Kind.{Kind}
 use Rattle.swh_outside.specs.Files.{Files}
 use Rattle.swh_segment.specs.Making.{IsMade}
-use Rattle.swh_program.specs.Answers.{status_of}
-use Rattle.swh_program.specs.Run.{ComesTo, IsExactly}
+use Rattle.swh_answers.specs.Answers.{status_of}
+use Rattle.swh_answers.specs.Run.{ComesTo, IsExactly}
 use Rattle.swh_program.specs.InitCommand.{InitEnds, IsInitAnswer}
-use Rattle.swh_program.specs.Opening.{IsUnusable, IsOpenRefusal, OpenEnds}
-use Rattle.swh_program.specs.declared.answer.Answer.{Answer}
-use Rattle.swh_program.specs.declared.answer.Answer.TheVariants.{Made, AlreadyMade, NotMade, Damaged, OutsideDisk, Memory}
+use Rattle.swh_answers.specs.Opening.{IsUnusable, IsOpenRefusal, OpenEnds}
+use Rattle.swh_answers.specs.declared.answer.Answer.{Answer}
+use Rattle.swh_answers.specs.declared.answer.Answer.TheVariants.{Made, AlreadyMade, NotMade, Damaged, OutsideDisk, Memory}
+use Rattle.swh_answers.proofs.Statuses.{stopped}
 use Rattle.swh_program.proofs.Archived.{not_both, harmed}
-
--- It is exact where it cannot be, and a part of the outside failed or memory ran out.
-pub stopped : (expected status : ℕ) (Cause : Type 0) → (status ≡ expected → ⊥) → ComesTo expected status → IsExactly expected Cause status
-stopped expected status Cause apart comes = record { only = λ e. absurd (apart e); there = λ _. comes }
 
 -- which statuses `init` has
 pub init_statuses : (answer : Answer) → IsInitAnswer answer → (status_of answer < 1) ⊎ (3 ≤ status_of answer)

@@ -1,7 +1,5 @@
 pub mod Elements
 pub mod Ends
-pub mod Told
-pub mod Opened
 pub mod Rises
 pub mod OpenedInputs
 pub mod Inputs
@@ -30,8 +28,6 @@ pub mod Statuses
 pub mod Exacts
 pub mod LoadStatuses
 pub mod LoadFiles
-pub mod Naming
-pub mod FolderNaming
 pub mod Leaving
 pub mod Orders
 pub mod ReadOnly

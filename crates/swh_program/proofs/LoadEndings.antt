@@ -1,5 +1,5 @@
 -- Which lines loads have by how they end, each and together.
-use Rattle.std.proofs.Common.{◌≡◌, ◌⊎◌, inl, inr, ⊎_elim, ℕ, ◌<◌, ◌≤◌, Result, Ok, Err, List, [], ◌∷◌, ◌++◌, false, refl, sym, ap, ◌∙◌, arith}
+use Rattle.std.proofs.Common.{◌≡◌, ◌⊎◌, inl, inr, ⊎_elim, ℕ, ◌<◌, Result, Ok, Err, List, [], ◌∷◌, ◌++◌, false, refl, sym, ap, ◌∙◌, arith}
 use Rattle.std.specs.List.{AllByRecursion}
 use Rattle.std.proofs.lemmas.List.{append-nil}
 use Rattle.swh_loader.specs.declared.end.End.{End}
@@ -10,12 +10,12 @@ use Rattle.swh_walk.specs.declared.stop.Stop.TheVariants as why
 use Rattle.swh_walk.specs.declared.end.LoadFault.{LoadFault}
 use Rattle.swh_walk.proofs.Batches.{at_element}
 use Rattle.swh_pool.specs.Stops.{is_fault, is_disk_fault, HaveNoDiskFault}
-use Rattle.swh_program.specs.Answers.{status_for, last_line_for}
-use Rattle.swh_program.specs.Run.{ComesTo}
+use Rattle.swh_answers.specs.Answers.{status_for, last_line_for}
+use Rattle.swh_answers.specs.Run.{ComesTo}
 use Rattle.swh_program.specs.Causes.{IsFullEnd, IsFullLine, IsShortEnd, IsOtherStop, IsShortLine, HasShortLine}
 use Rattle.swh_program.specs.Lines.{ending_of_end, ending_of_why, ending_for, ending_of_all, worse}
-use Rattle.swh_program.specs.declared.answer.Ending.{Ending}
-use Rattle.swh_program.specs.declared.answer.Ending.TheVariants as ending
+use Rattle.swh_answers.specs.declared.answer.Ending.{Ending}
+use Rattle.swh_answers.specs.declared.answer.Ending.TheVariants as ending
 use Rattle.swh_program.proofs.Elements.{contains_first, contains_more}
 
 -- a line is short where its load ended as wanting
@@ -88,13 +88,6 @@ one_wanting ending.Done e = absurd (omega (arith, e))
 one_wanting ending.Wanting e = refl
 one_wanting ending.OutsideDisk e = absurd (omega (arith, e))
 one_wanting ending.Memory e = absurd (omega (arith, e))
-
--- an ending has no status that another refusal has
-pub told_status : (end : Ending) → (status_for end < 2) ⊎ (4 ≤ status_for end)
-told_status ending.Done = inl (omega arith)
-told_status ending.Wanting = inl (omega arith)
-told_status ending.OutsideDisk = inr (omega arith)
-told_status ending.Memory = inr (omega arith)
 
 -- the line ends with nothing after it
 pub line_alone : (text : List ℕ) (end : Ending) → status_for end < 2 → text ++ last_line_for end ≡ text

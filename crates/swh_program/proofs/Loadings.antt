@@ -32,8 +32,8 @@ use Rattle.swh_program.specs.Inputs.{Inputs, input_of, IsInputEnd, IsOfJob}
 use Rattle.swh_program.specs.JobLoad.{attempt_for, visit_of, IsJobOutcome, IsJobLoad}
 use Rattle.swh_program.specs.Lines.{LoadedJob, outcomes, load_line, ending_of_end, ending_of_why, ending_for, ending_of_all, worse}
 use Rattle.swh_program.specs.Sharing.{AreShared}
-use Rattle.swh_program.specs.declared.answer.Ending.{Ending}
-use Rattle.swh_program.specs.declared.answer.Ending.TheVariants as ending
+use Rattle.swh_answers.specs.declared.answer.Ending.{Ending}
+use Rattle.swh_answers.specs.declared.answer.Ending.TheVariants as ending
 use Rattle.swh_program.proofs.LoadEndings.{first_apart, others_apart}
 use Rattle.swh_program.proofs.Fulls.{Had, GivesWithin, none_collides, AddsMade, had_after, adds_made}
 use Rattle.swh_program.proofs.RoomInTurn.{IsNotFilled, HasRoomFor, within, of_job}

@@ -22,8 +22,8 @@ use Rattle.swh_loader.proofs.Room.{HasRoomLeft, room_at_entry}
 use Rattle.swh_loader.specs.declared.end.BadInput.TheVariants.{Broken, Collision, Read}
 use Rattle.swh_loader.specs.declared.end.End.{End}
 use Rattle.swh_loader.specs.declared.end.End.TheVariants.{Full, NotFound, Failed}
-use Rattle.swh_program.specs.Seen.{FileAt}
-use Rattle.swh_program.specs.Answers.{TellsDisk, status_of, status_for, last_line_for, printed_by}
+use Rattle.swh_answers.specs.Seen.{FileAt}
+use Rattle.swh_answers.specs.Answers.{TellsDisk, status_of, status_for, last_line_for, printed_by}
 use Rattle.swh_program.specs.Complete.{MeantJob, jobs_of_meant, full_lines, all_made, IsMeant, AreMeant, HasAllGiven, HasBodyOrMakes, HasOneBody, HasRoomForLoads, AreQuiet}
 use Rattle.swh_program.specs.Exact.{line_for, lines_for, ending_of_ends, MeansCollision, IsEndFor, IsExactEnd, AreExactEnds, IsExact}
 use Rattle.swh_program.specs.Found.{found_at, paths_of}
@@ -32,14 +32,14 @@ use Rattle.swh_program.specs.Inputs.{Inputs}
 use Rattle.swh_program.specs.JobLoad.{IsJobLoad}
 use Rattle.swh_program.specs.Lines.{LoadedJob, outcomes, ending_of_end, ending_of_all, worse, TellsLoads}
 use Rattle.swh_program.specs.Load.{Givens, IsLoad, AreLoadedJobs, IsUnloaded, IsLoadedOrNot, LoadEnds}
-use Rattle.swh_program.specs.Opening.{IsArchive, IsOpenRefusal, OpenEnds}
-use Rattle.swh_program.specs.Run.{IsQuiet}
-use Rattle.swh_program.specs.declared.answer.Ending.{Ending}
-use Rattle.swh_program.specs.declared.answer.Ending.TheVariants as ending
-use Rattle.swh_program.specs.declared.answer.Answer.{Answer}
-use Rattle.swh_program.specs.declared.answer.Answer.TheVariants.{Told, OutsideDisk, OutsideSource, OutsideClock, Memory}
+use Rattle.swh_answers.specs.Opening.{IsArchive, IsOpenRefusal, OpenEnds}
+use Rattle.swh_answers.specs.Run.{IsQuiet}
+use Rattle.swh_answers.specs.declared.answer.Ending.{Ending}
+use Rattle.swh_answers.specs.declared.answer.Ending.TheVariants as ending
+use Rattle.swh_answers.specs.declared.answer.Answer.{Answer}
+use Rattle.swh_answers.specs.declared.answer.Answer.TheVariants.{Told, OutsideDisk, OutsideSource, OutsideClock, Memory}
 use Rattle.swh_program.proofs.Archived.{one_archive, opening_of_archive}
-use Rattle.swh_program.proofs.Completes.{Tells}
+use Rattle.swh_answers.proofs.Statuses.{Tells}
 use Rattle.swh_program.proofs.Elements.{each_among, from_map, flat_contains}
 use Rattle.swh_program.proofs.LoadEndings.{no_disk_faults}
 use Rattle.swh_program.proofs.JobRefusals.{one_list, refusal_of_jobs}

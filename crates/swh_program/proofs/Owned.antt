@@ -1,6 +1,5 @@
 -- Own files through a run.
-use Rattle.std.proofs.Common.{◌≡◌, inl, inr, ℕ, ◌<◌, List, [], ◌++◌, length, get_or, refl, sym, ap, ◌∙◌, subst, arith, append_assoc, Result, Ok, Err, IsErr}
-use Rattle.std.specs.Prelude.{OnErr}
+use Rattle.std.proofs.Common.{◌≡◌, inl, inr, ℕ, ◌<◌, List, [], ◌++◌, length, get_or, refl, sym, ap, ◌∙◌, subst, arith, append_assoc}
 use Rattle.swh_base.specs.declared.kind.Kind.{Kind}
 use Rattle.swh_outside.specs.Disk.{File, IsImage, IsAtRest}
 use Rattle.swh_outside.specs.Files.{Files, Images, AreImages, EachFilesMoment, files_done}
@@ -13,29 +12,23 @@ use Rattle.swh_model.specs.Step.{IsHistory}
 use Rattle.swh_model.proofs.Histories.{fronts}
 use Rattle.swh_segment.specs.Making.{IsMade, IsNotMade, IsEmptyArchive, barriers}
 use Rattle.swh_segment.specs.Settled.{seen_of}
-use Rattle.swh_keeper.specs.Damage.{IfDamagedAt}
 use Rattle.swh_keeper.specs.Own.{AreUsable, AreOwn}
-use Rattle.swh_keeper.specs.declared.opening.OpenWhy.{OpenWhy}
 use Rattle.swh_keeper.specs.declared.opening.OpenWhy.TheVariants as why
 use Rattle.swh_keeper.proofs.OwnLemmas.{not_damaged, opening_moments, making_leaves_own}
 use Rattle.swh_segment.specs.Calls.{all_calls}
 use Rattle.swh_segment.specs.Moments.{EachFrontMoment}
-use Rattle.swh_program.specs.Answers.{status_of}
-use Rattle.swh_program.specs.Damage.{IsUndamaged}
+use Rattle.swh_answers.specs.Answers.{status_of}
+use Rattle.swh_answers.specs.Damage.{IsUndamaged}
 use Rattle.swh_program.specs.InitCommand.{InitEnds}
 use Rattle.swh_program.specs.Jobs.{IsJobRefusal}
-use Rattle.swh_program.specs.Opening.{IsUnusable, IsOpenRefusal, IsRefusalFor}
-use Rattle.swh_program.specs.Own.{HasOpened, AreAfterCrash, KeepsOwn, EndsOwn}
-use Rattle.swh_program.specs.Run.{IsExactly, IsTold}
-use Rattle.swh_program.specs.Seen.{Span}
-use Rattle.swh_program.specs.declared.answer.Answer.{Answer}
-use Rattle.swh_program.specs.declared.answer.Answer.TheVariants.{Made, Told, Words, NoJobFile, BadJob, AlreadyMade, NotMade, Damaged, OutsideDisk, OutsideSource, OutsideFolder, OutsideYard, OutsideClock, Memory}
+use Rattle.swh_answers.specs.Opening.{IsUnusable}
+use Rattle.swh_answers.specs.Own.{HasOpened, AreAfterCrash, KeepsOwn, EndsOwn}
+use Rattle.swh_answers.specs.Run.{IsExactly, IsTold}
+use Rattle.swh_answers.specs.Seen.{Span}
+use Rattle.swh_answers.specs.declared.answer.Answer.{Answer}
+use Rattle.swh_answers.specs.declared.answer.Answer.TheVariants.{Made, Told, Words, NoJobFile, BadJob, AlreadyMade, NotMade, Damaged, OutsideDisk, OutsideSource, OutsideFolder, OutsideYard, OutsideClock, Memory}
+use Rattle.swh_answers.proofs.Owned.{keeps_same}
 use Rattle.swh_program.proofs.Statuses.{uncut}
-
--- what holds at an error, where there is one
-pub at_err : {T E : Type 0} (P : Type 0) (result : Result T E) → IsErr result → OnErr result P → P
-at_err P (Ok x) is holds = cc
-at_err P (Err e) is holds = holds
 
 -- what a read gives of a file at rest is its one image
 at_rest_sees : (file : File) → IsAtRest file → IsImage file file.seen
@@ -61,20 +54,6 @@ own_after_crash id_of images left usable after = record {
 -- a read sees images of files that are given back as they were
 pub sees_at : (taken new : Files) → new ≡ taken → AreImages taken (seen_of taken) → AreImages new (seen_of new)
 sees_at taken new is sees = subst (λ (f : Files). AreImages f (seen_of f)) (sym is) sees
-
--- an answer that is refused by an opening
-not_opened : (answer : Answer) → IsOpenRefusal answer → HasOpened answer → ⊥
-not_opened Made is opened = absurd is
-not_opened (Told text end) is opened = absurd is
-not_opened OutsideClock is opened = absurd is
-not_opened _ is opened = absurd opened
-
-undamaged_refusal : (reason : OpenWhy) (answer : Answer) → IsRefusalFor reason answer → IfDamagedAt reason (λ file at harm. ⊥) → IsUndamaged answer
-undamaged_refusal why.Made answer is none = absurd is
-undamaged_refusal why.NotMade answer is none = subst IsUndamaged (sym is) tt
-undamaged_refusal (why.Damaged file at harm) answer is none = absurd none
-undamaged_refusal why.DiskFault answer is none = subst IsUndamaged (sym is) tt
-undamaged_refusal why.Memory answer is none = subst IsUndamaged (sym is) tt
 
 -- an answer below 2 comes of an archive that was made or opened
 low_opened : (answer : Answer) → status_of answer < 2 → HasOpened answer
@@ -141,26 +120,12 @@ module _ (id_of : Kind → List ℕ → List ℕ) where
     pub keeps_by_end : (answer : Answer) → IsUndamaged answer → AreOwn id_of new → KeepsOwn id_of old new answer
     keeps_by_end answer undamaged own = record { undamaged = λ _. undamaged; own = λ _. own; opened = λ _. own; opening = opening_moments id_of old }
 
-    -- files that are as they were
-    pub keeps_same : (answer : Answer) → new ≡ old → IsUndamaged answer → (HasOpened answer → ⊥) → KeepsOwn id_of old new answer
-    keeps_same answer same undamaged unopened = record { undamaged = λ _. undamaged; own = λ own. subst (AreOwn id_of) (sym same) own; opened = λ opened. absurd (unopened opened); opening = opening_moments id_of old }
-
-    -- an opening that the keeper refused
-    pub keeps_refused : (reason : OpenWhy) (answer : Answer) → IsRefusalFor reason answer → IsOpenRefusal answer → (AreOwn id_of old → IfDamagedAt reason (λ file at harm. ⊥))
-        → (AreOwn id_of old → AreOwn id_of new) → KeepsOwn id_of old new answer
-    keeps_refused reason answer is one_of none own = record {
-      undamaged = λ was. undamaged_refusal reason answer is (none was);
-      own = own;
-      opened = λ opened. absurd (not_opened answer one_of opened);
-      opening = opening_moments id_of old;
-    }
-
     -- a job file that was refused, before the archive was opened
     pub keeps_no_jobs : (answer : Answer) → new ≡ old → IsJobRefusal answer → KeepsOwn id_of old new answer
-    keeps_no_jobs NoJobFile same is = keeps_same NoJobFile same tt (λ opened. opened)
-    keeps_no_jobs (BadJob text) same is = keeps_same (BadJob text) same tt (λ opened. opened)
-    keeps_no_jobs OutsideSource same is = keeps_same OutsideSource same tt (λ opened. opened)
-    keeps_no_jobs Memory same is = keeps_same Memory same tt (λ opened. opened)
+    keeps_no_jobs NoJobFile same is = keeps_same id_of old new NoJobFile same tt (λ opened. opened)
+    keeps_no_jobs (BadJob text) same is = keeps_same id_of old new (BadJob text) same tt (λ opened. opened)
+    keeps_no_jobs OutsideSource same is = keeps_same id_of old new OutsideSource same tt (λ opened. opened)
+    keeps_no_jobs Memory same is = keeps_same id_of old new Memory same tt (λ opened. opened)
     keeps_no_jobs _ same is = absurd is
 
     -- a making

@@ -1,18 +1,18 @@
 -- What `ask` does.
-use Rattle.std.specs.Prelude.{◌≡◌, ◌≢◌, ◌⊎◌, ◌++◌, ◌∷◌, [], ℕ, List, Any, length, decimal, flat_map}
-use Rattle.std.specs.List.{AllByRecursion, AllZip}
+use Rattle.std.specs.Prelude.{◌≡◌, ◌≢◌, ◌⊎◌, ◌==◌, ◌++◌, ◌∷◌, [], ℕ, if◌then◌else◌, List, Any, length, decimal, flat_map}
+use Rattle.std.specs.List.{AllByRecursion, AllZip, list_all}
 use Rattle.swh_model.specs.declared.event.Event.{Event}
 use Rattle.swh_model.specs.Archive.{Archive}
 use Rattle.swh_model.specs.Step.{replay}
 use Rattle.swh_model.specs.Answer.{ReplyText}
 use Rattle.swh_api.specs.Get.{IsReplyToGet}
-use Rattle.swh_program.specs.Seen.{Span, DepotFailed, SinkFailed}
-use Rattle.swh_program.specs.Archives.{old_archive}
-use Rattle.swh_program.specs.Opening.{IsArchive}
+use Rattle.swh_answers.specs.Seen.{Span, DepotFailed, SinkFailed}
+use Rattle.swh_answers.specs.Archives.{old_archive}
+use Rattle.swh_answers.specs.Opening.{IsArchive}
 use Rattle.swh_program.specs.Reading.{Telling, DoesRead}
-use Rattle.swh_program.specs.Run.{IsExactly, IsPrintedWith, replies_status}
-use Rattle.swh_program.specs.declared.answer.Ending.{Ending}
-use Rattle.swh_program.specs.declared.answer.Ending.TheVariants.{Done, Wanting}
+use Rattle.swh_answers.specs.Run.{IsExactly, IsPrintedWith}
+use Rattle.swh_answers.specs.declared.answer.Ending.{Ending}
+use Rattle.swh_answers.specs.declared.answer.Ending.TheVariants.{Done, Wanting}
 
 -- a reply as it is printed: its status, the length of its body, and the body
 abbrev pub reply_line : ReplyText → List ℕ
@@ -29,6 +29,10 @@ AreFound replies = AllByRecursion (λ r. r.status ≡ 200) replies
 -- Some reply's status is not 200.
 abbrev pub HasShortReply : List ReplyText → Type 0
 HasShortReply replies = Any (λ r. r.status ≢ 200) replies
+
+-- 0 where each reply is 200, else 1
+abbrev pub replies_status : List ReplyText → ℕ
+replies_status replies = if list_all (λ r. r.status == 200) replies then 0 else 1
 
 -- done exactly where each status is 200
 abbrev pub IsEndingOf : List ReplyText → Ending → Type 0

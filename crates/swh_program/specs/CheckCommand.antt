@@ -1,13 +1,15 @@
 -- What `check` does.
 use Rattle.std.specs.Prelude.{◌≡◌, ◌≢◌, ◌++◌, ◌∷◌, [], ℕ, List, codes, decimal}
 use Rattle.swh_base.specs.declared.kind.Kind.{Kind}
+use Rattle.swh_base.specs.declared.name.Name.{Name}
 use Rattle.swh_model.specs.Archive.{Archive}
+use Rattle.swh_check.specs.Bodies.{IsDamage}
 use Rattle.swh_check.specs.Counts.{IsReport}
 use Rattle.swh_check.specs.declared.report.Report.{Report}
-use Rattle.swh_program.specs.Seen.{Span}
-use Rattle.swh_program.specs.Damage.{TellsBody}
+use Rattle.swh_answers.specs.Seen.{Span}
+use Rattle.swh_answers.specs.Damage.{damaged_body_line}
 use Rattle.swh_program.specs.Reading.{Telling, DoesRead}
-use Rattle.swh_program.specs.declared.answer.Ending.TheVariants.{Done}
+use Rattle.swh_answers.specs.declared.answer.Ending.TheVariants.{Done}
 
 -- the counts of an archive as they are printed: names that are held, those of them that full visits reach, and visits
 abbrev pub report_line : Report → List ℕ
@@ -19,6 +21,14 @@ pub record TellsCounts (a : Archive) (text : List ℕ) : Type 0 where
   pub report : Report
   pub counts : IsReport a report
   pub text_is : text ≡ report_line report
+
+module _ (id_of : Kind → List ℕ → List ℕ) where
+  -- The text tells the name of a held body that reads otherwise.
+  pub record TellsBody (a : Archive) (text : List ℕ) : Type 0 where
+    pub name : Name
+    pub found : List ℕ
+    pub damage : IsDamage id_of a.bodies name found
+    pub text_is : text ≡ damaged_body_line name
 
 -- What `check` has to tell of an archive: its counts, or a body that reads otherwise than its name says.
 abbrev pub checking : (Kind → List ℕ → List ℕ) → Telling

@@ -3,17 +3,17 @@ use Rattle.std.specs.Prelude.{ℕ, List, map}
 use Rattle.swh_base.specs.declared.kind.Kind.{Kind}
 use Rattle.swh_model.specs.Archive.{Archive}
 use Rattle.swh_words.specs.Words.{Wanted, ToInit, ToLoad, ToAsk, ToCheck, ToCook, ToIdentify, ToIdentifyFolder}
-use Rattle.swh_program.specs.Seen.{Span}
+use Rattle.swh_answers.specs.Seen.{Span}
 use Rattle.swh_program.specs.InitCommand.{Inits, DoesInit}
 use Rattle.swh_program.specs.LoadCommand.{Loads, DoesLoad}
 use Rattle.swh_program.specs.AskCommand.{asking, DoesAsk}
 use Rattle.swh_program.specs.CheckCommand.{checking, DoesCheck}
 use Rattle.swh_program.specs.CookCommand.{cooking, LeavesYard, LeavesCook, Cooks, DoesCook}
-use Rattle.swh_program.specs.IdentifyCommand.{Identifies, DoesIdentify}
-use Rattle.swh_program.specs.IdentifyFolderCommand.{IdentifiesFolder, DoesIdentifyFolder}
+use Rattle.swh_identify.specs.IdentifyCommand.{Identifies, DoesIdentify}
+use Rattle.swh_identify.specs.IdentifyFolderCommand.{IdentifiesFolder, DoesIdentifyFolder}
 use Rattle.swh_program.specs.Reading.{Telling, Reads}
 use Rattle.swh_program.specs.Yards.{Yards}
-use Rattle.swh_program.specs.declared.answer.Answer.{Answer}
+use Rattle.swh_answers.specs.declared.answer.Answer.{Answer}
 use Rattle.swh_program.specs.declared.reading.Reading.{Reading}
 use Rattle.swh_program.specs.declared.reading.Reading.TheVariants.{Ask, Check, Cook}
 
@@ -54,3 +54,8 @@ abbrev pub ReadsLeave : ((Archive → Type 0) → Type 0) → Yards → Reading 
 ReadsLeave Of y (Ask paths) answer = y.same
 ReadsLeave Of y Check answer = y.same
 ReadsLeave Of y (Cook name out) answer = LeavesCook Of y name out.now answer
+
+-- The command has no use for the yard.
+abbrev pub NeedsNoYard : Wanted → Type 0
+NeedsNoYard (ToCook dir swhid out) = ⊥
+NeedsNoYard _ = Unit {0}

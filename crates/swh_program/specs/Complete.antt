@@ -18,8 +18,8 @@ use Rattle.swh_inputs.specs.Streaming.{MayGiveInput}
 use Rattle.swh_walk.specs.Visiting.{next_visit}
 use Rattle.swh_loader.specs.Room.{ledger_growth, store_growth}
 use Rattle.swh_program.specs.Found.{found_at, paths_of}
-use Rattle.swh_program.specs.Seen.{FileAt, FolderAt}
-use Rattle.swh_program.specs.Run.{IsQuiet}
+use Rattle.swh_answers.specs.Seen.{FileAt, FolderAt}
+use Rattle.swh_answers.specs.Run.{IsQuiet}
 
 -- a job and what its input makes
 pub record MeantJob : Type 0 where

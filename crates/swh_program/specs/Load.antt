@@ -21,12 +21,12 @@ use Rattle.swh_segment.specs.Moments.{IsSafelyMade, IsSafelyBroken, IsSafeOpenin
 use Rattle.swh_loader.specs.declared.end.Loaded.{Loaded}
 use Rattle.swh_walk.specs.declared.end.LoadFault.{LoadFault}
 use Rattle.swh_pool.specs.Stops.{AreStops, AreStopsOfMany, HaveNoDiskFault, HaveNoMemoryStop}
-use Rattle.swh_program.specs.Seen.{FileAt}
+use Rattle.swh_answers.specs.Seen.{FileAt}
 use Rattle.swh_program.specs.Dated.{AreSaid}
 use Rattle.swh_program.specs.Jobs.{AreJobsAt, IsJobRefusal, IsJobRefused}
-use Rattle.swh_program.specs.Opening.{IsArchive, IsOnlyOpened, IsOpenRefusal, OpenEnds}
-use Rattle.swh_program.specs.declared.answer.Answer.{Answer}
-use Rattle.swh_program.specs.declared.answer.Answer.TheVariants.{OutsideClock}
+use Rattle.swh_answers.specs.Opening.{IsArchive, IsOnlyOpened, IsOpenRefusal, OpenEnds}
+use Rattle.swh_answers.specs.declared.answer.Answer.{Answer}
+use Rattle.swh_answers.specs.declared.answer.Answer.TheVariants.{OutsideClock}
 use Rattle.swh_program.specs.Inputs.{Inputs}
 use Rattle.swh_program.specs.InTurn.{AreLoadsInTurn, IsNextOf}
 use Rattle.swh_program.specs.JobLoad.{IsJobLoad, NamesNext}

@@ -13,11 +13,11 @@ ghost use Rattle.swh_program.specs.Jobs.{
   IsJobRefusal,
   IsJobRefused,
 };
-ghost use Rattle.swh_program.specs.declared.answer.Answer.TheVariants.{OutsideSource};
+ghost use Rattle.swh_answers.specs.declared.answer.Answer.TheVariants.{OutsideSource};
 
-use crate::Answer;
 use itoa::Buffer;
 use std::alloc::Global;
+use swh_answers::Answer;
 use swh_base::{Bytes, Memory};
 use swh_fastlex::{SourceFault, WINDOW, read_front};
 use swh_jobs::{JobLine, JobWhy, JobsFault, LONGEST, parse_jobs};

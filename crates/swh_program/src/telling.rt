@@ -1,11 +1,10 @@
 // What is told of loads.
 ghost use Rattle.std.specs.Prelude.{◌≡◌, IfOk, OnErr};
 ghost use Rattle.swh_program.specs.Lines.{ending_of_end, ending_of_why, ending_for, ending_of_all, worse};
-ghost use Rattle.swh_program.specs.declared.answer.Answer.TheVariants.{Told, Memory as OutOfMemory};
+ghost use Rattle.swh_answers.specs.declared.answer.Answer.TheVariants.{Told, Memory as OutOfMemory};
 
-use crate::answer::{Answer, Ending};
-use crate::text::Text;
 use std::alloc::Global;
+use swh_answers::{Answer, Ending, Text};
 use swh_base::Memory;
 use swh_loader::{End, LoadFault, Loaded, Stop};
 use swh_pool::Report;

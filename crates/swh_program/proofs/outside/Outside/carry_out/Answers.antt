@@ -1,6 +1,6 @@
 use Rattle.std.proofs.Common.{rules, ◌≡◌, ℕ, List, Bor, sym, subst, ◌∙◌, ap, map, refl}
 use Rattle.swh_words.specs.Words.{ToInit, ToAsk, ToCheck, wanted_by}
-use Rattle.swh_program.specs.LeftAlone.{NeedsNoYard}
+use Rattle.swh_program.specs.Commands.{NeedsNoYard}
 use Rattle.swh_program.proofs.Does.{came}
 use Rattle.swh_program.proofs.Ends.{safe}
 use Rattle.swh_program.proofs.outside.Outside.carry_out.Goals as goal

@@ -1,6 +1,6 @@
 use Rattle.std.proofs.Common.{refl, sym, subst}
 use Rattle.swh_words.proofs.Commands.{one_command}
-use Rattle.swh_program.specs.LeftAlone.{NeedsNoYard}
+use Rattle.swh_program.specs.Commands.{NeedsNoYard}
 use Rattle.swh_program.proofs.Does.{came, nothing_came, comes_names}
 use Rattle.swh_program.proofs.outside.Outside.obey.Goals as goal
 

@@ -1,0 +1,4 @@
+pub mod Told
+pub mod Statuses
+pub mod Owned
+pub mod Opened

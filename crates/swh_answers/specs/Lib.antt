@@ -1,0 +1,9 @@
+pub mod Seen
+pub mod Refusal
+pub mod Answers
+pub mod Archives
+pub mod LeftAlone
+pub mod Run
+pub mod Damage
+pub mod Own
+pub mod Opening

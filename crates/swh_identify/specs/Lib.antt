@@ -1,0 +1,2 @@
+pub mod IdentifyCommand
+pub mod IdentifyFolderCommand
