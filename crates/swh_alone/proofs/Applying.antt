@@ -39,17 +39,10 @@ use Rattle.swh_keeper.specs.declared.fault.Refusal.{Refusal}
 use Rattle.swh_keeper.specs.declared.fault.Refusal.TheVariants as refusal
 use Rattle.swh_place.specs.Knowing.{Follows, CarriesOut, RefusesPlan, IsAgainst, unseen}
 use Rattle.swh_place.proofs.Growing.{follows_self}
-use Rattle.swh_object.specs.Object.{IsObject}
-use Rattle.swh_model.specs.Step.{HasItsChildrenAndName}
 use Rattle.swh_alone.specs.Alone.{AddsOn, IsEventFor, event_for, alone_words}
 use Rattle.swh_alone.specs.Fitting.{FitsFields}
 use Rattle.swh_alone.specs.Refusing.{place_refusal}
 use Rattle.swh_alone.specs.Lawful.{none}
-
--- the objects of a plan are good and named
-pub all_good : (id : Kind → List ℕ → List ℕ) (es : List Entry) → AllByRecursion (IsObject id) es → AllByRecursion (HasItsChildrenAndName id) es
-all_good id [] h = tt
-all_good id (e ∷ es) h = (record { good = record { kids = h.0.kids }; named = h.0.named }, all_good id es h.1)
 
 fresh-all : (P : Entry → Type 0) (bodies : Bodies) (es : List Entry) → AllByRecursion P es → AllByRecursion P (not_held bodies es)
 fresh-all P bodies [] h = tt

@@ -17,10 +17,6 @@ use Rattle.swh_answer.specs.declared.known.Step.TheVariants.{Next, End, No}
 
 -- ---- tokens of no list of names
 
-pub nothing_left : (left : List Token) → left ≡ [] → EndsNone left
-nothing_left left e [] good is = absurd (let both = sym e ∙ is in cc)
-nothing_left left e (n ∷ names) good is = absurd (let both = sym e ∙ is in cc)
-
 pub other_text : (left rest : List Token) (text : List ℕ) → left ≡ token.string text ∷ rest → ((name : Name) → IsName name → text ≡ core_text name → ⊥) → EndsNone left
 other_text left rest text e none [] good is = absurd (let both = sym e ∙ is in cc)
 other_text left rest text e none (n ∷ names) good is =

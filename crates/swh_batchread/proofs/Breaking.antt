@@ -113,10 +113,6 @@ other_header tells before now left left_now line old new fault past within low i
 pub takes_both : (a b c : Held) (la lb lc x y : List ℕ) → Takes a b la lb x → Takes b c lb lc y → Takes a c la lc (x ++ y)
 takes_both a b c la lb lc x y t s = record { cut = t.cut ∙ ap (λ (u : List ℕ). x ++ u) s.cut ∙ sym (append_assoc x y (unread c lc)); counted = omega (arith, t.counted, s.counted, length-append x y) }
 
--- the bytes of a body, and what follows them
-abbrev pub Follows : Held → Held → Held → List ℕ → List ℕ → List ℕ → List ℕ → Type 0
-Follows before middle now left left_middle left_now body = Takes before middle left left_middle body × EndsBody middle now left_middle left_now false
-
 other_byte : (body other rest more : List ℕ) (byte : ℕ) → length other ≡ length body → body ++ byte ∷ more ≡ other ++ 10 ∷ rest → byte ≡ 10
 other_byte body other rest more byte l e = let both = sized_split body other (byte ∷ more) (10 ∷ rest) (sym l) e in let behind = both.1 in cc
 

@@ -18,7 +18,7 @@ use Rattle.swh_made.specs.Making.{made_from}
 use Rattle.swh_batchread.specs.declared.fault.BatchFault.{BatchFault}
 use Rattle.swh_batchread.specs.declared.fault.BatchFault.TheVariants.{BadBatch, WrongName, BadRefs, NoObject, Limit, ReadFault, Memory}
 use Rattle.swh_batchread.specs.declared.header.Header.{Header}
-use Rattle.swh_batchread.specs.Batch.{Given, IsHeader, IsGiven, KeepsFirst, MeansObjects, header_text, given_text, batch_text, input_limit}
+use Rattle.swh_batchread.specs.Batch.{Given, IsHeader, IsGiven, KeepsFirst, header_text, given_text, batch_text, input_limit}
 use Rattle.swh_batchread.specs.BatchFault.{ObjectBreaks, BreaksBehind, BreaksHere, Reaches}
 use Rattle.swh_batchread.specs.Failing.{Fails}
 use Rattle.swh_batchread.specs.Parts.{Keeps, TakesObject, HasRead}
@@ -101,20 +101,6 @@ module _ (id : Kind → List ℕ → List ℕ) where
         reaches = subst (λ (at : ℕ). Reaches id text (r.given ++ t.given ∷ []) at (unread b lb)) (sym took.counted) (reaches_more text r.given a.place (unread a la) t.given (unread b lb) r.reaches t.is took.cut (omega (arith, took.counted, low)));
         keeps = subst (λ (ms : List Made). KeepsFirst [] ms new) (sym (map-append (λ (g : Given). g.made) r.given (t.given ∷ []) ∙ ap (λ (n : Made). map (λ (g : Given). g.made) r.given ++ n ∷ []) t.made)) (keeps_more [] (map (λ (g : Given). g.made) r.given) kept new m r.keeps k);
       }
-
-  -- nothing is read
-  pub nothing_read : (left : List ℕ) (a : Held) (kept : List Made) → a.bytes ≡ [] → a.place ≡ 0 → kept ≡ [] → HasRead id left a left kept
-  nothing_read left a kept empty first none =
-      record {
-        given = [];
-        reaches = record { are = record { each = tt; within = omega arith }; cut = ap (λ (t : List ℕ). t ++ left) (sym empty); here = first };
-        keeps = none;
-      }
-
-  -- all is read
-  pub all_read : (text : List ℕ) (a : Held) (la : List ℕ) (kept : List Made) → HasRead id text a la kept → unread a la ≡ [] → MeansObjects id text kept
-  all_read text a la kept r nothing =
-      record { given = r.given; are = r.reaches.are; spelled = r.reaches.cut ∙ ap (λ (t : List ℕ). batch_text r.given ++ t) nothing ∙ append-nil (batch_text r.given); kept = r.keeps }
 
 pub nothing_left : (bytes left : List ℕ) → bytes ++ left ≡ [] → left ≡ []
 nothing_left [] left e = e

@@ -1,6 +1,6 @@
 -- What is held of the refs that were read, with one line more.
 use Rattle.std.specs.Prelude.{is_some, not, filter, codes, ◌↔◌}
-use Rattle.std.proofs.Common.{◌≡◌, ◌⊎◌, inl, inr, ℕ, ◌+◌, ◌<◌, ◌≤◌, Bool, true, false, cond, Option, Some, None, List, [], ◌∷◌, ◌++◌, length, map, Contains, refl, sym, ap, ◌∙◌, subst, arith, length-append}
+use Rattle.std.proofs.Common.{◌≡◌, ◌⊎◌, inl, inr, ℕ, ◌+◌, ◌<◌, ◌≤◌, Bool, true, false, cond, Some, None, List, [], ◌∷◌, ◌++◌, length, map, Contains, refl, sym, ap, ◌∙◌, subst, arith, length-append}
 use Rattle.std.specs.Global.{Vec}
 use Rattle.std.specs.declared.cmp.Ordering.{Ordering}
 use Rattle.std.specs.declared.cmp.Ordering.TheVariants.{Less, Equal, Greater}
@@ -68,10 +68,6 @@ inserted (x ∷ es) k v none e =
       | Greater ↦ λ h. under (line_at x) (map line_at (insert_entry cmp es k v)) (map line_at es) (line_at (k, v)) e (inserted es k v h e)
     ]) none
 
-pub none_of : {X : Type 0} (o : Option X) → is_some o ≡ false → o ≡ None
-none_of None h = refl
-none_of (Some x) h = absurd (cc)
-
 -- a name that is found is that of an entry
 pub found_in : (es : List (Vec ℕ × List ℕ)) (name : List ℕ) → is_some (lookup (at_name name) es) ≡ true → (v : List ℕ) × Contains (map line_at es) (made v name)
 found_in [] name h = absurd (cc)
@@ -127,10 +123,6 @@ not_met rs refs name h none c =
     let r = from_map (λ (r : RefLine). r.name) (kept_refs rs) name c in
     let there = (h.names r.0).1 r.1 in
     no_name refs.by_name.entries name r.0.id none (subst (λ (n : List ℕ). Contains (map line_at refs.by_name.entries) (made r.0.id n)) r.2 there)
-
-pub nothing_held : (refs : Refs) → refs.ids.items ≡ [] → refs.by_name.entries ≡ [] → refs.counted ≡ 0 → Holds [] refs
-nothing_held refs ids entries counted =
-    record { ids = ids; names = λ r. (λ c. subst (λ (es : List (Vec ℕ × List ℕ)). Contains (map line_at es) r) entries c, λ c. absurd (none_is r c)); counted = counted; few = omega arith }
 
 kept_push : (rs : List RefLine) (r : RefLine) → is_peeled r.name ≡ false → kept_refs (rs ++ r ∷ []) ≡ kept_refs rs ++ r ∷ []
 kept_push rs r p = filter-append (λ (r : RefLine). not (is_peeled r.name)) rs (r ∷ []) ∙ ap (λ (b : Bool). kept_refs rs ++ cond (not b) (r ∷ []) []) p

@@ -86,13 +86,6 @@ lines_more rs r are may before q more e = by_place (cut_push rs r before q more 
     by_place (inl h) = subst (λ (x : RefLine). MayFollowRefs before x) (sym h.1) (subst (λ (xs : List RefLine). MayFollowRefs xs r) (sym h.0) may)
     by_place (inr h) = are before q h.0 h.1
 
-no_cut : {X : Type 0} (before : List X) (x : X) (more : List X) → [] ≡ before ++ x ∷ more → ⊥
-no_cut [] x more e = cc
-no_cut (b ∷ before) x more e = cc
-
-pub no_lines : AreRefLines []
-no_lines before r more e = absurd (no_cut before r more e)
-
 pub text_push : (rs : List RefLine) (r : RefLine) → refs_text (rs ++ r ∷ []) ≡ refs_text rs ++ ref_text r
 text_push rs r = flat_map-append ref_text rs (r ∷ []) ∙ ap (λ (t : List ℕ). refs_text rs ++ t) (append-nil (ref_text r))
 

@@ -47,10 +47,6 @@ some_behind old mid new xs ys zs at m =
       is = m.is ∙ ap (λ (y : Yarded). after_made y m.some) at ∙ sym (after_both old xs m.some);
     }
 
--- a front of what comes first was made
-pub some_first : (old new : Yarded) (ys zs : List Made) → MakesSome old ys new → MakesSome old (ys ++ zs) new
-some_first old new ys zs m = some_behind old old new [] ys zs refl m
-
 -- ---- what was broken off
 
 pub made_some : {T E : Type 0} (tells : Type 0) (old : Yarded) (all : List Made) (new : Yarded) (result : Result T E) → IsErr result → (tells → MakesSome old all new) → Makes tells old all new result

@@ -16,9 +16,8 @@ use Rattle.swh_dirmade.specs.declared.spot.Spot.{Spot}
 use Rattle.swh_dirmade.specs.Building.{entry_at}
 use Rattle.swh_dirmade.specs.Directories.{entry_of, entry_size}
 use Rattle.swh_dirmade.specs.Making.{IsHeld}
-use Rattle.swh_base.specs.Limits.{body_limit}
-use Rattle.swh_dirmade.specs.Numbers.{numbers_from, IsFolderAt}
-use Rattle.swh_dirmade.specs.Sizes.{size_at, size_from, size_of, AreSizes, AreShortBelow}
+use Rattle.swh_dirmade.specs.Numbers.{numbers_from}
+use Rattle.swh_dirmade.specs.Sizes.{size_at, size_from, AreSizes}
 use Rattle.swh_dirmade.specs.Spots.{path_to, above_at, name_at, place_at, IsTable}
 use Rattle.swh_dirmade.proofs.Numbers.{step_in, step_out}
 use Rattle.swh_dirmade.proofs.SpotTables.{tree_of}
@@ -93,16 +92,3 @@ pub get_any : {X : Type 0} (xs : List X) (k : ℕ) (d e : X) → k < length xs �
 get_any [] k d e lt = absurd (omega (arith, lt))
 get_any (x ∷ xs) zero d e lt = refl
 get_any (x ∷ xs) (suc k) d e lt = get_any xs k d e (omega (arith, lt))
-
-pub short_more : (spots : List Spot) (standing : List Place) (sizes : List ℕ) (number : ℕ) → AreSizes spots standing 1 sizes → number < length spots → AreShortBelow spots standing number → (IsFolderAt standing number × (body_limit < get_or sizes number 0) → ⊥) → AreShortBelow spots standing (number + 1)
-short_more spots standing sizes number are within short not_long = λ k lt folder. elim (cases_lt k number) [
-  | inl below ↦ short k below folder
-  | inr ge ↦
-      let e : number ≡ k = omega (arith, lt, ge) in
-      let folder_here : IsFolderAt standing number = subst (IsFolderAt standing) (sym e) folder in
-      let size = are.each number within in
-      subst (λ (n : ℕ). size_of spots standing n ≤ body_limit) e (elim (cases_lt body_limit (get_or sizes number 0)) [
-        | inl long ↦ absurd (not_long (folder_here, long))
-        | inr le ↦ subst (λ (n : ℕ). n ≤ body_limit) size le
-      ])
-]

@@ -213,10 +213,6 @@ pub not-known : (x : Option ℕ) → ((n : ℕ) → x ≡ Some n → ⊥) → x 
 not-known None h = refl
 not-known (Some n) h = absurd (h n refl)
 
--- a name that an index has not
-pub unknown : (names : List (Vec ℕ)) (firsts : List (ℕ × ℕ)) (others : List (Vec ℕ × ℕ)) (name : List ℕ) (n : ℕ) → IsIndex names firsts others → number_in names firsts others name ≡ None → n < length names → name_at (texts names) n ≡ name → {A : Type 0} → A
-unknown names firsts others name n index none lt is = none_some (number_in names firsts others name) n none (subst (λ (x : List ℕ). number_in names firsts others x ≡ Some n) is (index.known n lt))
-
 -- no name stands twice
 pub once-each : (names : List (Vec ℕ)) (firsts : List (ℕ × ℕ)) (others : List (Vec ℕ × ℕ)) → IsIndex names firsts others → (i j : ℕ) → i < length names → j < length names → name_at (texts names) i ≡ name_at (texts names) j → i ≡ j
 once-each names firsts others index i j li lj e = the_some i j (sym (index.known i li) ∙ ap (number_in names firsts others) e ∙ index.known j lj)

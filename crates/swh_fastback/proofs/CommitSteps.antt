@@ -60,9 +60,6 @@ at_tree m = record { tree = m; contents = [] }
 abbrev pub KnowsFile : List Name → Targets → Row → Type 0
 KnowsFile order aims row = row.entry.mode ≢ 40000 → row.entry.mode ≢ 160000 → Knows order aims (content_name row.entry.id)
 
-no_more : {X : Type 0} (a : At X) (more : List (At X)) → said (a ∷ more) ≡ [] → ⊥
-no_more a more e = cc
-
 first_said : {X : Type 0} (a : At X) (more : List (At X)) (x : X) (xs : List X) → said (a ∷ more) ≡ x ∷ xs → (a.it ≡ x) × (said more ≡ xs)
 first_said a more x xs e = (cc, cc)
 

@@ -8,7 +8,7 @@ use Rattle.swh_carried.specs.declared.fault.Why.{Why}
 use Rattle.swh_carried.specs.declared.fault.Why.TheVariants.{Cycle, Revision, Release, Empty, Dots, Text, Path, Branch, Tagless, Refs, Length}
 use Rattle.swh_carried.specs.Rules.{HasLongPath}
 use Rattle.swh_carried.specs.Uncarried.{rule_number, BreaksNone}
-use Rattle.swh_fastcarried.specs.Rules.{IsOddRelease, IsEmptyEntry, IsRevisionRoot, HasOddBranch, StandsAtBranch, BreaksIn}
+use Rattle.swh_fastcarried.specs.Rules.{IsOddRelease, IsRevisionRoot, HasOddBranch, StandsAtBranch, BreaksIn}
 use Rattle.swh_fastcarried.specs.First.{IsFirstRule}
 
 -- kinds that differ
@@ -48,9 +48,6 @@ cnt_snp e = cc
 module _ (bodies : Bodies) (root : Name) (order : List Name) (name : Name) where
   abbrev B : Why → Type 0
   B why = BreaksIn bodies root order ⊥ ⊥ name why
-
-  abbrev E : Type 0
-  E = IsEmptyEntry bodies order name
 
   abbrev P : Type 0
   P = HasLongPath bodies (IsRevisionRoot bodies order) name

@@ -1,7 +1,6 @@
 -- What is known of all that is reached, and the rules that it tells of.
-use Rattle.std.proofs.Common.{Result, Ok, Err, ◌≡◌, ◌⊎◌, inl, inr, ℕ, ◌+◌, ◌<◌, ◌≤◌, Bool, true, false, Option, Some, None, List, [], ◌∷◌, ◌++◌, length, take, drop, get_or, refl, sym, ap, ◌∙◌, subst, arith, add-one, drop-cons}
+use Rattle.std.proofs.Common.{Result, Ok, Err, ◌≡◌, ◌⊎◌, inl, inr, ℕ, ◌+◌, ◌<◌, ◌≤◌, Bool, true, false, Option, Some, None, List, [], ◌∷◌, ◌++◌, length, refl, sym, ap, ◌∙◌, subst, arith}
 use Rattle.std.specs.Prelude.{Contains, ◌↔◌, IsTrue, IfOk, OnOk, IfSome, IfNone}
-use Rattle.std.proofs.lemmas.List.{take-append-drop}
 use Rattle.swh_base.specs.declared.kind.Kind.TheVariants.{Directory as DirectoryKind, Release as ReleaseKind}
 use Rattle.swh_base.specs.declared.name.Name.{Name}
 use Rattle.swh_base.specs.Directory.{DirectoryEntry, IsDirectory}
@@ -15,9 +14,8 @@ use Rattle.swh_graph.proofs.Lists.{none_in, same_some}
 use Rattle.swh_carried.specs.declared.fault.Why.{Why}
 use Rattle.swh_carried.specs.declared.fault.Why.TheVariants.{Cycle, Revision, Release, Empty, Dots, Text, Path, Branch, Tagless, Refs, Length}
 use Rattle.swh_carried.specs.Rules.{HasDirectoryEntry, HasDots, HasLongPath, way_length}
-use Rattle.swh_carried.specs.Uncarried.{BreaksNone, IsFirstToBreak}
 use Rattle.swh_ways.specs.Ways.{Tells, RaisesOverAll, TellsOfFolders}
-use Rattle.swh_fastcarried.specs.First.{HaveDots, IsOneOf, IsFolderAt, IsOwnTag, IsFirstRule}
+use Rattle.swh_fastcarried.specs.First.{HaveDots, IsOneOf, IsFolderAt, IsOwnTag}
 use Rattle.swh_fastcarried.specs.Known.{IsEmptyFolder, IsLongOver, IsFolderRule}
 use Rattle.swh_fastcarried.specs.Rules.{IsEmptyEntry, IsRevisionRoot, HasOddBranch, HaveOddBranch, StandsAtBranch}
 use Rattle.swh_fastcarried.specs.RevisionWays.{IsWay}
@@ -157,15 +155,6 @@ module _ (bodies : Bodies) (root : Name) where
   none_odd missing top h = let e : Some h.holds.body ≡ None = sym h.holds.held ∙ missing in cc
 
 -- ---- the first of the order
-
-module _ (Breaks : Name → Why → Type 0) (order : List Name) (i : ℕ) (none : Name) (within : i < length order) where
-  cut_here : order ≡ take i order ++ get_or order i none ∷ drop (i + 1) order
-  cut_here =
-      let one : drop i order ≡ get_or order i none ∷ drop (i + 1) order = rw (add-one, drop-cons order i none) in
-      sym (take-append-drop i order) ∙ ap (λ (l : List Name). take i order ++ l) one
-
-  pub first_here : ((n : Name) → Contains (take i order) n → BreaksNone Breaks n) → (why : Why) → IsFirstRule Breaks (get_or order i none) (Some why) → IsFirstToBreak Breaks order (get_or order i none) why
-  first_here before why first = record { before = take i order; behind = drop (i + 1) order; cut = cut_here; is = first; none = before }
 
 -- what holds of an answer where there is one
 pub if_ok : {T F : Type 0} {A B : T → Type 0} (r : Result T F) → ((x : T) → A x → B x) → IfOk r A → IfOk r B

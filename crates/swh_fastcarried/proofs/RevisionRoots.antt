@@ -21,9 +21,6 @@ use Rattle.swh_fastcarried.specs.First.{IsOneOf, IsRootAt}
 use Rattle.swh_fastcarried.specs.Rules.{IsRevisionRoot}
 use Rattle.swh_fastcarried.specs.RevisionWays.{IsWay}
 
-same_first : (a b : Name) (xs ys : List Name) → a ∷ xs ≡ b ∷ ys → a ≡ b
-same_first a b xs ys e = cc e
-
 -- a name at the end of a list
 pub pushed : (old new : List Name) (name : Name) → new ≡ old ++ name ∷ [] → (n : Name) → Contains new n ↔ (Contains old n ⊎ (name ≡ n))
 pushed old new name is n = (
@@ -67,14 +64,6 @@ module _ (bodies : Bodies) where
         let same = same_some has.0 body (sym has.1 ∙ held) in
         let are = subst (λ (k : Kind). AreChildren k has.0 kids) kind has.2 in
         found ∙ ap (λ (ns : List Name). Some ns) (are.kids ∙ ap revision_children (one_revision body are.revision r (subst (λ (b : List ℕ). IsRevision b are.revision) same are.is) is))
-
-    -- a revision that is held has a child
-    pub has_first : (name : Name) (kids : List Name) → name.kind ≡ RevisionKind → children_of name ≡ Some kids → kids ≡ [] → ⊥
-    has_first name kids kind found none =
-        let has = graph.held name kids found in
-        let are = subst (λ (k : Kind). AreChildren k has.0 kids) kind has.2 in
-        let e : [] ≡ revision_children are.revision = sym none ∙ are.kids in
-        cc
 
     revision_kid : (place : Name) (r : Revision) → place.kind ≡ RevisionKind → HoldsRevision bodies place r → IsChildIn children_of place (directory_name r.directory)
     revision_kid place r kind holds = record {

@@ -19,7 +19,7 @@ use Rattle.swh_fastcarried.proofs.FirstRules.{rule_none}
 use Rattle.swh_written.specs.Sinks.{IsTaken}
 use Rattle.swh_fastcook.specs.Cause.{Breaks}
 use Rattle.swh_fastcook.specs.Cook.{BreaksStream, LeadsHead, IsCarriedStream, IsTextOfKind, IsCookedText, IsCooked, IsFrontCooked, ExplainsNoText}
-use Rattle.swh_fastcook.specs.Ready.{IsReady, ExplainsNotReady}
+use Rattle.swh_fastcook.specs.Ready.{IsReady}
 use Rattle.swh_fastcook.specs.Stream.{IsStreamOf, IsStreamText}
 use Rattle.swh_fastcook.proofs.Loads.{content_few}
 
@@ -134,13 +134,6 @@ carried_plain bodies root order none n there odd = by n.kind refl odd
 -- ---- why a name is not cooked
 
 module _ (bodies : Bodies) (children_of : Name → Option (List Name)) (root : Name) (tells same : Type 0) (old new : List ℕ) where
-  -- nothing was put
-  pub not_begun : (fault : CookFault) → same → ExplainsNotReady bodies children_of root fault → ExplainsNoText bodies children_of root tells same old new fault
-  not_begun (NotHeld missing) s h = (h, s)
-  not_begun (Uncarried name why) s h = (h, s)
-  not_begun WriteFault s h = absurd h
-  not_begun Memory s h = inl s
-
   -- a front was put
   pub broken_off : (before now : ℕ) (fault : CookFault) → Breaks before now fault → IsFrontCooked bodies children_of root tells old new → ExplainsNoText bodies children_of root tells same old new fault
   broken_off before now (NotHeld missing) h f = absurd h

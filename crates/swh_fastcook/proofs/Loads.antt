@@ -1,9 +1,6 @@
 -- The branches that a stream loads.
-use Rattle.std.proofs.Common.{◌≡◌, inl, inr, ℕ, ◌+◌, ◌<◌, ◌≤◌, Bool, true, Some, List, [], ◌∷◌, ◌++◌, length, take, refl, sym, ap, ◌∙◌, subst, arith, codes}
+use Rattle.std.proofs.Common.{◌≡◌, inl, inr, ℕ, ◌+◌, ◌<◌, ◌≤◌, Bool, Some, List, [], ◌∷◌, ◌++◌, length, sym, ap, ◌∙◌, subst, arith, codes}
 use Rattle.std.specs.Prelude.{◌↔◌, IsTrue, decimal}
-use Rattle.std.specs.Ordering.{is_eq}
-use Rattle.std.specs.declared.cmp.Ordering.{Ordering}
-use Rattle.std.specs.declared.cmp.Ordering.TheVariants.{Less, Equal, Greater}
 use Rattle.std.proofs.lemmas.List.{append-nil}
 use Rattle.swh_base.specs.declared.kind.Kind.{Kind}
 use Rattle.swh_base.specs.declared.kind.Kind.TheVariants.{Content, Directory, Revision as RevisionKind}
@@ -14,21 +11,8 @@ use Rattle.swh_base.proofs.SnapshotLemmas.{one_snapshot}
 use Rattle.swh_model.specs.Archive.{Bodies, body_of}
 use Rattle.swh_graph.specs.Holding.{HoldsSnapshot}
 use Rattle.swh_graph.proofs.Lists.{same_some}
-use Rattle.swh_snpfmt.specs.declared.branch.SpelledBranch.{SpelledBranch}
-use Rattle.swh_snpfmt.specs.Branches.{branches_in_body}
 use Rattle.swh_fastcook.proofs.TagMaps.{sized}
 use Rattle.swh_fastcook.specs.Loaded.{main_branch, without_head, AreMany, AreLoadedOf, LoadsMany}
-
--- ---- branches without the head
-
-equal_order : (o : Ordering) → is_eq o ≡ true → o ≡ Equal
-equal_order Less e = absurd (cc)
-equal_order Equal e = refl
-equal_order Greater e = absurd (cc)
-
-module _ (bs : List SpelledBranch) (i : ℕ) (d : SpelledBranch) (within : i < length bs) where
-  abbrev count_at : ℕ → ℕ
-  count_at n = length (without_head (branches_in_body (take n bs)))
 
 -- ---- a snapshot that is held
 

@@ -1,11 +1,10 @@
 -- Texts one after another, and how a text ends that is broken off.
 use Rattle.std.proofs.Common.{◌≡◌, ℕ, ◌≤◌, Some, None, List, [], ◌∷◌, ◌++◌, refl, sym, ap, ◌∙◌, subst, append_assoc}
-use Rattle.std.specs.Prelude.{Result, OnOk, IsErr, IfErr, ⊤}
-use Rattle.std.specs.Result.{IsErrAnd}
+use Rattle.std.specs.Prelude.{Result, IsErr, ⊤}
 use Rattle.std.proofs.lemmas.List.{append-nil}
 use Rattle.std.proofs.lemmas.Grind.{flat_map-append}
 use Rattle.std.proofs.lemmas.List.Concat.{flat_map-cons}
-use Rattle.std.proofs.lemmas.Result.{IfOk-from_err, MatchResult-from_err, err_from_is_err_and, on_ok_weaker, IfErr-weaker}
+use Rattle.std.proofs.lemmas.Result.{IfOk-from_err, MatchResult-from_err, on_ok_weaker, IfErr-weaker}
 use Rattle.swh_base.specs.declared.name.Name.{Name}
 use Rattle.swh_dirfmt.specs.declared.entry.SpelledEntry.{SpelledEntry}
 use Rattle.swh_model.specs.Archive.{Bodies}
@@ -13,20 +12,10 @@ use Rattle.swh_graph.specs.Path.{directory_name}
 use Rattle.swh_pathwalk.specs.Tree.{Row, IsPathWalk}
 use Rattle.swh_pathwalk.specs.Walk.{Coming, Standing, BeginsAt, Steps, Remain, row_of}
 use Rattle.swh_pathwalk.proofs.Steps.{begins, goes_on, ends, remain_at_first, remain_step}
-use Rattle.swh_carried.specs.declared.fault.CookFault.{CookFault}
 use Rattle.swh_written.specs.Held.{AddsUp, Kept, kept, Goes, Wrote, WroteSome}
 use Rattle.swh_written.proofs.Pieces.{goes_appended, goes_both, front_behind, front_more}
 use Rattle.swh_fastcook.specs.Files.{AreFilesOf, RowsSoFar}
 use Rattle.swh_fastcook.specs.Stream.{file_text, files_text}
-
--- ---- the count of faults
-
-module _ {A : Type 0} (before now : ℕ) (result : Result A CookFault) where
-  refused : (P : CookFault → Type 0) (x : CookFault) → IsErrAnd result (λ y. y ≡ x) → P x → IfErr result P
-  refused P x h p = let e = err_from_is_err_and result h in rw (e.1, e.2) p
-
-  no_answer : (P : Type 0) (x : CookFault) → IsErrAnd result (λ y. y ≡ x) → OnOk result P
-  no_answer P x h = let e = err_from_is_err_and result h in rw e.1 tt
 
 -- ---- texts
 

@@ -41,10 +41,6 @@ Begins {X} w b L = (rows : List Placed) (x : X) → L rows x → begins w rows �
 pub same_pair : {X Y : Type 0} (v w : X × Y) → v.0 ≡ w.0 → v.1 ≡ w.1 → v ≡ w
 same_pair {X} {Y} v w e f = ap (λ (x : X). let p : X × Y = (x, v.1) in p) e ∙ ap (λ (y : Y). let p : X × Y = (w.0, y) in p) f
 
-head_of : Placed → List Placed → Placed
-head_of d [] = d
-head_of d (p ∷ rows) = p
-
 -- the same rows cut after the first
 pub cons_cut : (p q : Placed) (a b : List Placed) → p ∷ a ≡ q ∷ b → (p ≡ q) × (a ≡ b)
 cons_cut p q a b e = (cc, ap tail e)

@@ -38,10 +38,6 @@ pub in_tail : (a b : List ℕ) (s : ℕ) → Contains b s → Contains (a ++ b) 
 in_tail [] b s h = h
 in_tail (c ∷ a) b s h = let k = in_tail a b s h in let l = k.1 in (suc k.0, omega (arith, l), k.2)
 
-first_byte : List ℕ → ℕ
-first_byte [] = 0
-first_byte (c ∷ cs) = c
-
 -- no number begins with `<`
 pub no_angle : (text word : List ℕ) (n : ℕ) → IsNumber text n → text ≡ 60 ∷ word → ⊥
 no_angle [] word n h e = cc

@@ -42,9 +42,6 @@ as_run : (quoted : Bool) (stop : ℕ) (text path rest : List ℕ) → Run quoted
 as_run true stop text path rest r = inl r
 as_run false stop text path rest r = inr r
 
-pub passes : (quoted : Bool) (stop : ℕ) (text path rest : List ℕ) (number : ℕ) → Run quoted stop text path rest → number ≡ length path → path_limit < number → PassesPath stop text number
-passes quoted stop text path rest number r count above = record { path = path; rest = rest; runs = as_run quoted stop text path rest r; count = count; above = above }
-
 pub passes_not : (quoted : Bool) (stop : ℕ) (text path rest : List ℕ) → Run quoted stop text path rest → length path ≤ path_limit → (number : ℕ) → PassesPath stop text number → ⊥
 passes_not quoted stop text path rest r le number h =
     let same = one_run stop text path h.path rest h.rest (as_run quoted stop text path rest r) h.runs in

@@ -20,10 +20,6 @@ abbrev first : List ℕ → ℕ
 first [] = 0
 first (c ∷ cs) = c
 
-abbrev tail : List ℕ → List ℕ
-tail [] = []
-tail (c ∷ cs) = cs
-
 -- What a line `M` says, with its text after the word.
 abbrev pub SaysSet : List ℕ → Change → Type 0
 SaysSet text (Set mode what path) = SetsTo text mode what path
@@ -220,7 +216,3 @@ move_none text none Clear h = h
 
 pub move_no : (text : List ℕ) → NoPair text → Reads (codes "R " ++ text) No
 move_no text none = (λ c says. move_none text none c (said_move text c says), λ n p. none.1 n (passed_move text n p))
-
--- a line of another word
-abbrev pub Lacks : List ℕ → List ℕ → Type 0
-Lacks word line = (rest : List ℕ) → line ≡ word ++ rest → ⊥

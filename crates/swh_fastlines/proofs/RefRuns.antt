@@ -1,5 +1,5 @@
 -- The bytes of a ref that a text begins with, and what they are: a ref, one that is too long, or none.
-use Rattle.std.proofs.Common.{◌≡◌, ◌≢◌, ◌⊎◌, ◌↔◌, IsTrue, ℕ, zero, suc, ◌<◌, ◌≤◌, inl, inr, Bool, true, false, List, [], ◌∷◌, ◌++◌, length, get_or, take, drop, refl, sym, ap, ◌∙◌, subst, arith, codes}
+use Rattle.std.proofs.Common.{◌≡◌, ◌≢◌, ◌⊎◌, ◌↔◌, ℕ, zero, suc, ◌<◌, ◌≤◌, inl, inr, true, false, List, [], ◌∷◌, ◌++◌, length, get_or, take, drop, refl, sym, ap, ◌∙◌, subst, arith, codes}
 use Rattle.std.proofs.lemmas.List.{length-take, take-append-drop}
 use Rattle.std.specs.List.{AllPass}
 use Rattle.swh_base.specs.Limits.{ref_limit}
@@ -13,20 +13,6 @@ use Rattle.swh_fastgrammar.proofs.Words.{not_among}
 abbrev first : List ℕ → ℕ
 first [] = 0
 first (c ∷ cs) = c
-
-told : (c : ℕ) (r b : Bool) → is_ref_byte c ≡ b → (IsTrue r → IsRef (c ∷ [])) → (IsRef (c ∷ []) → IsTrue r) → r ≡ b
-told c true true e up down = refl
-told c false false e up down = refl
-told c true false e up down = let yes : is_ref_byte c ≡ true = (up refl).bytes 0 c (omega arith) in absurd cc
-told c false true e up down = down (record { some = omega arith; short = omega arith; bytes = one })
-  where
-    one : AllPass is_ref_byte (c ∷ [])
-    one zero d l = e
-    one (suc k) d l = absurd (omega (arith, l))
-
--- A byte is a ref's exactly where it alone is a ref.
-pub alone : (c : ℕ) (r : Bool) → (IsTrue r ↔ IsRef (c ∷ [])) → r ≡ is_ref_byte c
-alone c r h = told c r (is_ref_byte c) refl h.0 h.1
 
 -- what follows begins with no byte of a ref
 abbrev pub Stops : List ℕ → Type 0

@@ -17,10 +17,6 @@ abbrev first : List ℕ → ℕ
 first [] = 0
 first (c ∷ cs) = c
 
-abbrev tail : List ℕ → List ℕ
-tail [] = []
-tail (c ∷ cs) = cs
-
 -- the text does not begin with the word
 abbrev Lacks : List ℕ → List ℕ → Type 0
 Lacks word text = (rest : List ℕ) → text ≡ word ++ rest → ⊥

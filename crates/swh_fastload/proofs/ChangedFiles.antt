@@ -1,5 +1,5 @@
 -- What stands in the tree of a commit after its changes.
-use Rattle.std.proofs.Common.{◌≡◌, ◌≢◌, ℕ, Bool, true, false, cond, Result, Ok, Err, List, [], ◌∷◌, ◌++◌, Contains, refl, sym, ap, subst}
+use Rattle.std.proofs.Common.{◌≡◌, ◌≢◌, ℕ, Bool, true, false, cond, Result, Ok, Err, List, [], ◌∷◌, ◌++◌, Contains, refl, ap, subst}
 use Rattle.std.specs.Prelude.{filter}
 use Rattle.std.specs.List.{AllByRecursion}
 use Rattle.std.proofs.lemmas.List.Elements.{Contains-append_right}
@@ -103,9 +103,6 @@ module _ (names : List Name) where
 
     file : (mode : ℕ) (path i : List ℕ) → IsPath path → IsLeafAmong names (record { mode = mode; id = i }) → IsFileAmong names (components path, record { mode = mode; id = i })
     file mode path i p l = record { some = components-some path; parts = path-names path p; leaf = l }
-
-    ok_is : {X : Type 0} (a b : X) → a ≡ b → b ≡ a
-    ok_is a b e = sym e
 
     set_files : (at mode : ℕ) (what : Dataref) (path : List ℕ) (c d : Changed) → IsGivableChange (Set mode what path) → changed id aims at (Set mode what path) c ≡ Ok d → AreBlobsAmong → AreContentsAmong d.contents → AreFilesAmong names c.tree → AreFilesAmong names d.tree
     set_files at mode (Mark mark) path c d g e blobs contents f = by_blob (blob_at aims at mark) refl e

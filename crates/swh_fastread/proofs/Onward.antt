@@ -3,9 +3,7 @@ use Rattle.std.proofs.Common.{◌≡◌, ℕ, ◌+◌, ◌⊎◌, inl, inr, Bool
 use Rattle.std.specs.List.{list_any}
 use Rattle.swh_base.proofs.Splits.{absent, not_nil}
 use Rattle.swh_fastgrammar.specs.declared.command.Command.{Command}
-use Rattle.swh_fastgrammar.specs.declared.fault.StreamWhy.{StreamWhy}
-use Rattle.swh_fastgrammar.specs.declared.fault.StreamWhy.TheVariants.{Grammar, End, LeftOut, Mark, Branch, Place as Spot}
-use Rattle.swh_fastgrammar.specs.Fault.{BeginsStream, BeginsRows, Reaches, IsLineFault, IsEndFault, IsFault}
+use Rattle.swh_fastgrammar.specs.Fault.{BeginsStream, BeginsRows, Reaches, IsLineFault, IsEndFault}
 use Rattle.swh_fastgrammar.specs.Grammar.{many, Item, IsItem, is_promise, commands_of, Ends, IsWhole, IsStream}
 use Rattle.swh_fastgrammar.specs.Grammar.Item.{Says, Promise, Nothing}
 use Rattle.swh_fastrows.specs.Outcome.{Ended}
@@ -221,11 +219,3 @@ end_more at p text x i cs place s f = record {
   inside = inside_more at p text x f.rest (text_of f.rows) i s.rows s.text_is s.good s.said f.before.spelled f.inside;
   none = λ all t. let r = strip at p s.rows x i all s.good s.said s.ended (subst (λ (z : List ℕ). IsStream at p z all) s.text_is t) in f.none r.others r.stream;
 }
-
-pub fault_more : (at : ℕ) (p : Bool) (text x : List ℕ) (i : Item) (cs : List Command) (place : ℕ) (why : StreamWhy) (s : Spelled at text x i) → IsFault (at + length (text_of s.rows)) (p || is_promise i) x cs place why → IsFault at p text (commands_of (i ∷ []) ++ cs) place why
-fault_more at p text x i cs place Grammar s f = line_more at p text x i cs place false s f
-fault_more at p text x i cs place End s f = end_more at p text x i cs place s f
-fault_more at p text x i cs place LeftOut s f = line_more at p text x i cs place true s f
-fault_more at p text x i cs place Mark s f = f
-fault_more at p text x i cs place Branch s f = f
-fault_more at p text x i cs place Spot s f = f

@@ -90,9 +90,6 @@ pub stopped_end : {X : Type 0} (L : List Placed → X → Type 0) (a : Place) �
 stopped_end L a e (inl n) = absurd cc
 stopped_end L a e (inr clear) = let l = clear_lacks L a a (took_none a) e clear in record { refused = l.refused; counts = l.counts }
 
-pub some_none : {X : Type 0} (L : List Placed → X → Type 0) (a : Place) → ReadsSome L a a []
-some_none L a = record { rows = []; took = took_none a; says = refl }
-
 -- one more was read
 pub some_more : {X : Type 0} (L : List Placed → X → Type 0) (a b c d : Place) (xs : List X) (x : X) → ReadsSome L a b xs → Part L b c x → Took c d [] → ReadsSome L a d (xs ++ x ∷ [])
 some_more L a b c d xs x s p t = record {

@@ -1,6 +1,6 @@
 -- A folder's map ascends, and maps that ascend and hold the same are the same list.
 use Rattle.std.proofs.Common.{◌≡◌, ◌≢◌, ℕ, Bool, true, false, not, cond, List, [], ◌∷◌, ◌++◌, Option, Some, None, refl, sym, ap, ◌∙◌, inl, inr, ◌⊎◌}
-use Rattle.std.specs.Prelude.{filter, Result, Ok, Err, IfOk}
+use Rattle.std.specs.Prelude.{filter}
 use Rattle.std.specs.Ordering.{nat_cmp, is_lt, ordering_then}
 use Rattle.std.specs.Cmp.Lexicographic.{slice_cmp}
 use Rattle.std.specs.declared.cmp.Ordering.{Ordering}
@@ -288,7 +288,3 @@ delete-here (c ∷ p) y ne plain s =
     same-map (flat (forest (deleted_where z (c ∷ p) y))) (delete (c ∷ p) (flat (forest y))) (ascends (forest (deleted_where z (c ∷ p) y)) sound)
     (filter-ascends (λ (q : List (List ℕ)). not (begins (c ∷ p) q)) (flat (forest y)) (ascends (forest y) s))
     (λ q. map-at q (forest (deleted_where z (c ∷ p) y)) sound ∙ leaf-deleted q c p y z ∙ sym (delete-is (c ∷ p) q (forest y) s))
-
-pub if_ok : {A E : Type 0} {P Q : A → Type 0} (r : Result A E) → ((x : A) → P x → Q x) → IfOk r P → IfOk r Q
-if_ok (Ok x) f h = f x h
-if_ok (Err e) f h = tt

@@ -15,9 +15,6 @@ use Rattle.swh_forest.proofs.Grafts.{same_is, same_self}
 pub text-at : (names : List (Vec ℕ)) (i : ℕ) (v : Vec ℕ) → i < length names → v ≡ get_or names i v → name_at (texts names) i ≡ v.items
 text-at names i v lt is = get_or-map (λ (w : Vec ℕ). w.items) names i v [] lt ∙ ap (λ (w : Vec ℕ). w.items) (sym is)
 
-abbrev pub child_of : List (List ℕ) → (ℕ → Forest) → List ℕ → List Entry → Stands
-child_of names at c es = child_at c (forest_of names at es)
-
 pub beside-here : (n c : List ℕ) (k : Child) (at : ℕ → Forest) (f : Forest) → same n c ≡ true → child_at c (beside n (stands at k) f) ≡ stands at k
 beside-here n c (FileChild l) at f e = rw e refl
 beside-here n c (FolderChild j) at f e = rw e refl

@@ -1,25 +1,18 @@
 -- How `identify dir` ends, and where nothing stands against it.
-use Rattle.std.proofs.Common.{◌≡◌, ◌≢◌, ◌⊎◌, inl, inr, ℕ, ◌<◌, ◌≤◌, Option, Some, None, List, [], refl, sym, ap, ◌∙◌, subst, arith}
+use Rattle.std.proofs.Common.{◌≡◌, ◌≢◌, ◌⊎◌, inl, inr, ℕ, ◌<◌, ◌≤◌, Option, Some, None, List, [], refl, ap, ◌∙◌, subst, arith}
 use Rattle.std.proofs.lemmas.List.{append-nil}
 use Rattle.swh_base.specs.declared.kind.Kind.{Kind}
 use Rattle.swh_outside.specs.Folder.{Tree}
-use Rattle.swh_dirload.specs.declared.fault.DirFault.{DirFault}
 use Rattle.swh_dirload.specs.Root.{HasRoot}
 use Rattle.swh_dirload.proofs.OneFolder.{one_root, root_unbroken}
-use Rattle.swh_answers.specs.Answers.{TellsDisk, TellsLine, status_of}
+use Rattle.swh_answers.specs.Answers.{TellsDisk, status_of}
 use Rattle.swh_answers.specs.Run.{IsExactly}
-use Rattle.swh_identify.specs.IdentifyFolderCommand.{directory_line, TellsFault, AnswersFault, HasNoDirectory, TellsFolder, FolderEnds, IsFolderAnswer}
+use Rattle.swh_identify.specs.IdentifyFolderCommand.{directory_line, HasNoDirectory, TellsFolder, FolderEnds, IsFolderAnswer}
 use Rattle.swh_answers.specs.declared.answer.Ending.{Ending}
 use Rattle.swh_answers.specs.declared.answer.Ending.TheVariants as ending
 use Rattle.swh_answers.specs.declared.answer.Answer.{Answer}
 use Rattle.swh_answers.specs.declared.answer.Answer.TheVariants.{Told, OutsideDisk, OutsideFolder, Memory}
 use Rattle.swh_answers.proofs.Statuses.{Tells, stopped, told_status}
-
--- a line is told of a fault
-pub fault_told : (fault : DirFault) (line : List ℕ) (answer : Answer) → TellsFault fault line → TellsLine line ending.Wanting answer → AnswersFault fault answer
-fault_told fault line (Told text end) tells told = (told.1, subst (TellsFault fault) (sym told.0) tells)
-fault_told fault line Memory tells told = tt
-fault_told fault line _ tells told = absurd told
 
 module _ (id_of : Kind → List ℕ → List ℕ) where
   -- it is never refused for words, a job or an archive

@@ -15,10 +15,8 @@ use Rattle.swh_model.specs.Judge.{IsVerdict, IsWish}
 use Rattle.swh_model.proofs.Verdicts.{wish_may}
 use Rattle.swh_model.proofs.PlainSteps.{may_can, may_good, may_new, can_there}
 use Rattle.swh_replay.specs.declared.replayed.Replayed.{Replayed}
-use Rattle.swh_plan.specs.declared.planning.Planned.{Planned}
 use Rattle.swh_replay.specs.Replay.{IsReplayOf, IsInFiles, MayAdvance}
-use Rattle.swh_plan.specs.Planned.{IsPlanned}
-use Rattle.swh_keeper.specs.Keeping.{AreSettledFor, HaveEnds, IsToAdd, IsKeeping}
+use Rattle.swh_keeper.specs.Keeping.{AreSettledFor, HaveEnds, IsKeeping}
 use Rattle.swh_segment.specs.Standing.{WithOrWithout}
 use Rattle.swh_format.specs.EventRecord.{run_written, coded_record}
 use Rattle.swh_segment.specs.Calls.{calls_for, event_calls}
@@ -35,9 +33,6 @@ may_advance id_of r h e is may =
       new = subst (λ (b : Bodies). AreNew b (entries_of e.what)) (sym is.bodies) (may_new id_of (replay h) e may);
       there = subst (λ (a : Archive). HasItsVisit a e) (sym (same_archive r h is)) there;
     }
-
-pub to_add : (r : Replayed) (h : List Event) (by : ℕ) (wish : Wish) (p : Planned) → IsReplayOf r h → IsPlanned h by wish r p → IsToAdd r h p.event p.run.items p.bytes.items
-to_add r h by wish p is planned = record { run_is = planned.run_is; bytes_are = planned.record_is; codable = planned.codable; store = is.store }
 
 -- the keeper once the event was added
 pub keeping-push : (id_of : Kind → List ℕ → List ℕ) (tells : Type 0) (ledger store : File) (r : Replayed) (h h' : List Event) (e : Event) → MayAll id_of empty_archive h → May id_of (replay h) e → h' ≡ h ++ e ∷ []

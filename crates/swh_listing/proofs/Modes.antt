@@ -21,10 +21,6 @@ second [] = 0
 second (c ∷ []) = 0
 second (c ∷ d ∷ cs) = d
 
--- the line does not begin with the word
-abbrev pub Lacks : List ℕ → List ℕ → Type 0
-Lacks word line = (rest : List ℕ) → line ≡ word ++ rest → ⊥
-
 -- the line begins with no mode
 abbrev pub NoMode : List ℕ → Type 0
 NoMode line = (mode : Mode) (rest : List ℕ) → BeginsMode line mode rest → ⊥

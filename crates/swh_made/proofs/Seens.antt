@@ -94,10 +94,6 @@ put_back digest place known old between new there put back = record { there = th
     by_test other false t =
         back other ∙ ap (λ (b : Bool). cond b (Some known) (first_at between other)) t ∙ put other ∙ ap (λ (b : Bool). cond b (Some place) (first_at old other)) t
 
--- A place that was put in is there.
-pub put_there : (digest : ℕ) (place : ℕ) (old new : List (ℕ × ℕ)) → IsPut digest place old new → first_at new digest ≡ None → ⊥
-put_there digest place old new put none = let here : first_at new digest ≡ Some place = put digest ∙ ap (λ (b : Bool). cond b (Some place) (first_at old digest)) (at_self digest) in cc
-
 same_places : (old new : Places) (digest : ℕ) → first_at new.first.entries digest ≡ first_at old.first.entries digest → new.further.entries ≡ old.further.entries → mapped_at new digest ≡ mapped_at old digest
 same_places old new digest e same = ap (λ (o : Option ℕ). first_and o (further_at new.further.entries digest)) e ∙ ap (λ (f : List (ℕ × Vec ℕ)). first_and (first_at old.first.entries digest) (further_at f digest)) same
 
@@ -118,9 +114,6 @@ led_none digest places k e c = none_is k (subst (λ (o : Option ℕ). Contains (
 -- A digest that leads where it led.
 pub led_same : (digest : ℕ) (place : ℕ) (old new : Places) → LedTo digest old.first.entries new.first.entries place → new.further.entries ≡ old.further.entries → SameMapped old new
 led_same digest place old new l same other = same_places old new other (l.same other) same
-
-pub first_same : (old new : Places) → new.first.entries ≡ old.first.entries → new.further.entries ≡ old.further.entries → SameMapped old new
-first_same old new e same other = same_places old new other (ap (λ (f : List (ℕ × ℕ)). first_at f other) e) same
 
 -- One more of a digest that led somewhere.
 pub led_other : (digest : ℕ) (first place : ℕ) (old new : Places) → LedTo digest old.first.entries new.first.entries first → GetsOther digest place old.further.entries new.further.entries → GetsMapped digest place old new

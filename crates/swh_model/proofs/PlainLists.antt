@@ -138,13 +138,6 @@ pub origins-push : (os : List VisitedOrigin) (w : VisitedOrigin) → find R w.or
 origins-push os w none =
     ap (λ (ps : List (List ℕ × List Visit)). finite.from_entries ps) (map-push os w) ∙ from_entries_push nat_list_cmp_total R_same (map with_visits os) w.origin w.visits.items none
 
--- one more origin was copied
-pub copied-more : (os copies : List VisitedOrigin) (k : ℕ) (o w : VisitedOrigin) → k < length os → o ≡ get_or os k o → with_visits w ≡ with_visits o → map with_visits copies ≡ map with_visits (take k os)
-    → map with_visits (copies ++ w ∷ []) ≡ map with_visits (take (k + 1) os)
-copied-more os copies k o w less is same so =
-    map-push copies w ∙ ap (λ (ps : List (List ℕ × List Visit)). ps ++ with_visits w ∷ []) so ∙ ap (λ (p : List ℕ × List Visit). map with_visits (take k os) ++ p ∷ []) same
-    ∙ sym (ap (λ (ps : List VisitedOrigin). map with_visits ps) (take-more os k o less is) ∙ map-push (take k os) o)
-
 -- ---- what a look-up among entries answers
 
 module _ (r : Option (Bor Entry)) (es : List Entry) (n : Name) where

@@ -48,9 +48,6 @@ kid_of (Some kids) k there = (kids, refl, there)
 
 -- ---- entries
 
-not_both : (a b : ℕ) → a ≡ b → (a ≡ b → ⊥) → ⊥
-not_both a b e n = n e
-
 both_modes : (mode : ℕ) → (mode == 160000) ≡ true → (mode == 40000) ≡ true → ⊥
 both_modes mode p f =
     let a = eqb-true mode 160000 p in

@@ -36,6 +36,3 @@ gap_of bodies children_of root parent child graph (held, reached, one, none) =
 pub child_missing : (bodies : Bodies) (children_of : Name → Option (List Name)) (root parent child : Name) (fault : WalkFault) → IsGraphOf bodies children_of → fault ≡ Missing (Some parent) child → IsWalkFault children_of root fault
     → IsFullRefusal bodies root (NotClosed parent child)
 child_missing bodies children_of root parent child fault graph is why = gap_of bodies children_of root parent child graph (subst (IsWalkFault children_of root) is why)
-
-same_id : (a b : List ℕ) → Some a ≡ Some b → a ≡ b
-same_id a b e = cc

@@ -8,7 +8,6 @@ use Rattle.swh_format.proofs.StandsFrom.{with_magic}
 use Rattle.swh_format.proofs.Lengths.{runs-length, ledger-length}
 use Rattle.swh_recovery.specs.declared.fault.NextFault.{NextFault}
 use Rattle.swh_recovery.specs.declared.fault.NextFault.TheVariants as next
-use Rattle.swh_model.specs.declared.event.Event.{Event}
 use Rattle.swh_recovery.specs.declared.reading.Reached.{Reached}
 use Rattle.swh_recovery.specs.Records.{IfNextHarmed, HasRuns, IsReadSoFar, IsInside, BreaksNext, IsAtEnd, AreWhole, IsHarm}
 use Rattle.swh_recovery.specs.Answers.{all_fault, IfDamaged}
@@ -37,9 +36,6 @@ all_whole id_of ledger size r so_far inside small short =
       store_fits = let e = so_far.end_is in let i = inside.end_inside in let n = runs-length h in omega (arith, e, i, n, small);
       ledger_fits = let e = so_far.gate_is in let i = inside.gate_inside in let n = ledger-length h in omega (arith, e, i, n, short, length-append magic (coded_records 0 h));
     }
-
-pub none_whole : (id_of : Kind → List ℕ → List ℕ) (rs : List Event) → rs ≡ [] → AreWhole id_of rs
-none_whole id_of rs is = subst (AreWhole id_of) (sym is) (record { codable = tt; good = tt; store_fits = omega arith; ledger_fits = omega arith })
 
 pub harmed_whole : (id_of : Kind → List ℕ → List ℕ) (fault : NextFault) (old new : Reached) → IfNextHarmed fault (λ _ _. new ≡ old) → AreWhole id_of old.events.items → IfDamaged (all_fault fault new.events) (λ _ _ _ before. AreWhole id_of before)
 harmed_whole id_of next.DiskFailed old new same whole = tt

@@ -15,12 +15,6 @@ module _ (file : File) (rs : List Record) (r : Record) (end : ℕ) (settled : Is
   abbrev bytes : List ℕ
   bytes = body r ++ 0 ∷ []
 
-  gate : ℕ
-  gate = settled.stands.gate
-
-  rest : List ℕ
-  rest = settled.stands.rest
-
   abbrev is : file.seen ≡ front rs ++ settled.stands.gate ∷ settled.stands.rest
   is = settled.stands.split
 

@@ -22,9 +22,6 @@ runs-push (d ∷ h) e rest =
 
 -- the store, at rest, with some bytes up to a place, and a run that is written there
 module _ (store : File) (front rest : List ℕ) (at : ℕ) (rests : IsAtRest store) (begins : store.seen ≡ front ++ rest) (size : length front ≡ at) where
-  pub in_store : at ≤ length store.seen
-  in_store = omega (arith, size, ap length begins, length-append front rest)
-
   to_place : (more : List ℕ) → take at (front ++ more) ≡ front
   to_place more = take_at front more at size
 

@@ -27,10 +27,6 @@ at q = is_at (keys_cmp q)
 pub same_key : (n m : Name) → at (name_key n) (name_key m) ≡ true → n ≡ m
 same_key n m t = name_cmp-IsAntisymmetric n m ((Equal-is (keys_cmp (name_key n) (name_key m))).0 t)
 
--- keys that are not told apart are the same
-pub same_list : (k l : List ℕ) → at k l ≡ true → k ≡ l
-same_list k l t = finite.slice_cmp-IsAntisymmetric finite.nat_cmp-IsAntisymmetric k l ((Equal-is (keys_cmp k l)).0 t)
-
 pub key_itself : (n : Name) → at (name_key n) (name_key n) ≡ true
 key_itself n = ap is_eq (tied_itself nat_list_cmp_total (name_key n))
 

@@ -158,8 +158,3 @@ module _ (seen : Origins) (es : Kept) (url origin : List ℕ) (view_is : origins
       ∙ ap (λ (vs : List Visit). insert (origins_of es) url vs) (done ∙ ap (λ (vs : List Visit). marked_at vs (visit - 1) status snapshot) (visits-there old there))
       ∙ ap (λ (o : Origins). insert o url (marked_at (visits_of seen origin) (visit - 1) status snapshot)) view_is
       ∙ ap (λ (u : List ℕ). insert seen u (marked_at (visits_of seen origin) (visit - 1) status snapshot)) text
-
--- ---- what stands against a status
-
-same_of_some : (v w : Visit) → Some v ≡ Some w → v ≡ w
-same_of_some v w e = cc

@@ -10,8 +10,8 @@ use Rattle.swh_place.specs.declared.refusal.Refusal.{Refusal}
 use Rattle.swh_place.specs.declared.refusal.Refusal.TheVariants as refusal
 use Rattle.swh_place.specs.Knowing.{Follows, CarriesOut, RefusesPlan, IsAgainst}
 use Rattle.swh_place.proofs.Growing.{follows_self, follows_alone}
-use Rattle.swh_alone.specs.Alone.{AddsOn, alone_words}
-use Rattle.swh_walk_tests.specs.Sharing.{this, made_in, IsOthers, AddsAmong, shared_words}
+use Rattle.swh_alone.specs.Alone.{alone_words}
+use Rattle.swh_walk_tests.specs.Sharing.{this, made_in, IsOthers, shared_words}
 
 made-push : (h : List Event) (e : Event) → made_in (h ++ e ∷ []) ≡ made_in h + made_in (e ∷ [])
 made-push [] e = omega arith
@@ -24,21 +24,6 @@ other_none : (e : Event) → e.by ≡ 1 → made_in (e ∷ []) ≡ 0
 other_none e is = ap (λ (n : ℕ). cond (n == this) 1 0 + 0) is
 
 module _ {D : Type 0} (id : Kind → List ℕ → List ℕ) (disks : Disks D) where
-  -- nothing was added
-  pub others_none : (k : Kept D) → IsOthers id k k
-  others_none k = record { follows = follows_self id false k.history; made = refl }
-
-  looked : (a b : Kept D) → AddsOn id disks [] a b → AddsAmong id [] a b
-  looked a b h = record {
-    runs = record { gap = []; behind = h.behind; may = h.may; quiet = λ one. refl };
-    made = let e = ap made_in h.behind in let f = ap (λ (t : List Event). made_in t) (append_none a.history) in omega (arith, e, f);
-    unwounded = h.unwounded;
-  }
-    where
-      append_none : (h : List Event) → h ++ [] ≡ h
-      append_none [] = refl
-      append_none (x ∷ h) = ap (λ (t : List Event). x ∷ t) (append_none h)
-
   -- the other loader's plan was carried out, or refused
   pub others_one : (wish : Wish) (a b : Kept D) (outcome : Outcome) → CarriesOut id (alone_words id disks 1) wish a b outcome → IsOthers id a b
   others_one wish a b outcome c =
