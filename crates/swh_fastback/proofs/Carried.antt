@@ -9,7 +9,7 @@ use Rattle.swh_postorder.specs.Cycle.{ArePreceded}
 use Rattle.swh_postorder.specs.Postorder.{IsPostorder}
 use Rattle.swh_carried.specs.Uncarried.{AreCarried}
 use Rattle.swh_fastcarried.specs.Rules.{BreaksIn}
-use Rattle.swh_fastcook.specs.Marks.{StandOnce}
+use Rattle.swh_marks.specs.Marks.{StandOnce}
 use Rattle.swh_fastcook.specs.Stream.{IsStreamText}
 use Rattle.swh_fastcook.proofs.Acyclic.{all_once, all_preceded}
 use Rattle.swh_fastgrammar.specs.declared.command.Command.{Command}

@@ -11,7 +11,7 @@ use Rattle.swh_base.specs.Revision.{revision_name}
 use Rattle.swh_revfmt.specs.Plain.{text_line, optional_line, IsPersonLine, IsEncoding, PlainRevision, RevisionRest}
 use Rattle.swh_pathwalk.specs.Tree.{Row}
 use Rattle.swh_fasttext.specs.Text.{mark_line, data_text, marked_line, cook_branch, commit_head, file_line, project_line}
-use Rattle.swh_fastcook.specs.Marks.{mark_of}
+use Rattle.swh_marks.specs.Marks.{mark_of}
 use Rattle.swh_fastcook.specs.Stream.{content_name, file_text, files_text, parent_line, parents_text, beginning, commit_text}
 use Rattle.swh_fastgrammar.specs.declared.command.At.{At}
 use Rattle.swh_fastgrammar.specs.declared.command.Commitish.{Commitish}

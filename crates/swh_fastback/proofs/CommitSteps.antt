@@ -10,7 +10,7 @@ use Rattle.swh_fastlex.specs.Path.{components}
 use Rattle.swh_forest.specs.PathMap.{PathMap, set}
 use Rattle.swh_pathwalk.specs.Tree.{Row}
 use Rattle.swh_fasttext.specs.Text.{cook_branch}
-use Rattle.swh_fastcook.specs.Marks.{mark_of}
+use Rattle.swh_marks.specs.Marks.{mark_of}
 use Rattle.swh_fastcook.specs.Stream.{content_name}
 use Rattle.swh_fastgrammar.specs.declared.command.At.{At}
 use Rattle.swh_fastgrammar.specs.declared.command.Commitish.{Commitish}

@@ -24,7 +24,7 @@ use Rattle.swh_carried.specs.declared.fault.Why.TheVariants.{Empty, Dots, Path, 
 use Rattle.swh_carried.specs.Rules.{HasDirectoryEntry, HasDots, HasLongPath}
 use Rattle.swh_carried.specs.Uncarried.{BreaksNone}
 use Rattle.swh_fastcarried.specs.Rules.{IsRevisionRoot, IsCarriedObject, IsCarriedTarget, HasOddBranch, BreaksIn}
-use Rattle.swh_fastcook.specs.Marks.{mark_of}
+use Rattle.swh_marks.specs.Marks.{mark_of}
 use Rattle.swh_fastcook.specs.Stream.{IsCommit, IsTag}
 use Rattle.swh_fastcook.proofs.Kids.{directory_in, parents_in, object_in, tips_in}
 use Rattle.swh_pathwalk.specs.Tree.{Row, IsPathWalk}

@@ -21,7 +21,7 @@ use Rattle.swh_postorder.proofs.Preceded.{cut_at}
 use Rattle.swh_carried.specs.Rules.{HasDirectoryEntry, HasDots, LeadsOver, way_length, HasLongPath}
 use Rattle.swh_fastlex.specs.Path.{IsComponent}
 use Rattle.swh_pathwalk.specs.Tree.{Tree, End, Leaf as TreeLeaf, Folder, entries_in, AreHeldUnder, IsTreeOf, Row, path_walk}
-use Rattle.swh_fastcook.specs.Marks.{mark_of}
+use Rattle.swh_marks.specs.Marks.{mark_of}
 use Rattle.swh_fastcook.specs.Stream.{content_name}
 use Rattle.swh_fastback.specs.Sound.{AreOfBytes}
 use Rattle.swh_fastback.specs.Trees.{HasNoEmptyFolder}

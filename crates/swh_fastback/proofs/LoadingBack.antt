@@ -20,7 +20,7 @@ use Rattle.swh_postorder.specs.Postorder.{IsPostorder}
 use Rattle.swh_carried.specs.declared.fault.Why.TheVariants.{Refs, Length}
 use Rattle.swh_carried.specs.Uncarried.{AreCarried}
 use Rattle.swh_fastcarried.specs.Rules.{tag_branch}
-use Rattle.swh_fastcook.specs.Marks.{is_written_kind}
+use Rattle.swh_marks.specs.Marks.{is_written_kind}
 use Rattle.swh_fastcook.specs.Stream.{IsStreamText}
 use Rattle.swh_fastgrammar.specs.declared.command.Command.{Command}
 use Rattle.swh_fastmeaning.specs.Commands.{Target, Targets, no_making, steps}

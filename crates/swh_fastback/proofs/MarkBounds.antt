@@ -9,7 +9,7 @@ use Rattle.swh_model.specs.Archive.{Bodies}
 use Rattle.swh_graph.proofs.Lists.{none_in, in_cases}
 use Rattle.swh_revfmt.specs.Plain.{text_line}
 use Rattle.swh_fasttext.specs.Text.{data_text, tag_head}
-use Rattle.swh_fastcook.specs.Marks.{is_written_kind, is_written, written, mark_step, mark_of}
+use Rattle.swh_marks.specs.Marks.{is_written_kind, is_written, written, mark_step, mark_of}
 use Rattle.swh_fastcook.specs.Stream.{IsTextOf, AreObjectTexts, IsStreamText, commit_front, files_text}
 use Rattle.swh_fastrows.specs.declared.row_source.TheConstants.{STREAM_LIMIT}
 use Rattle.swh_fastback.proofs.LineKinds.{IsMarkNumber}

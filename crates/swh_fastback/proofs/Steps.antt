@@ -33,11 +33,11 @@ use Rattle.swh_forest.specs.Forest.{flat}
 use Rattle.swh_trees.specs.Directory.{directory_id, directory_of}
 use Rattle.swh_pathwalk.specs.Tree.{Tree, entries_in, Row}
 use Rattle.swh_fasttext.specs.Text.{cook_branch}
-use Rattle.swh_fastcook.specs.Marks.{is_written_kind, is_written, written, mark_of, StandOnce}
+use Rattle.swh_marks.specs.Marks.{is_written_kind, is_written, written, mark_of, StandOnce}
+use Rattle.swh_marks.proofs.Marked.{mark_is}
 use Rattle.swh_fastcook.specs.Ends.{HasRevision}
 use Rattle.swh_fastcook.specs.Stream.{content_name}
 use Rattle.swh_fastcook.proofs.Kids.{revision_kid, written_object}
-use Rattle.swh_fastcook.proofs.Marked.{mark_is}
 use Rattle.swh_fastgrammar.specs.declared.command.Command.{Command}
 use Rattle.swh_fastmeaning.specs.Aims.{Missing, tip_at, with_mark, without_tip}
 use Rattle.swh_fastmeaning.specs.Commands.{Target, Targets, Changed, Making, Makes, no_making, step, steps, then, only as only_aims, aim_of, root_of, revision, revision_parts, release, release_parts, marked, committed, tagged, ◌>>=◌}

@@ -12,7 +12,7 @@ use Rattle.swh_base.proofs.Splits.{absent}
 use Rattle.swh_model.specs.Archive.{Bodies, body_of}
 use Rattle.swh_graph.proofs.Lists.{in_first, in_rest}
 use Rattle.swh_fasttext.specs.Text.{tip_text, cook_branch}
-use Rattle.swh_fastcook.specs.Marks.{mark_of}
+use Rattle.swh_marks.specs.Marks.{mark_of}
 use Rattle.swh_fastcook.specs.Stream.{IsCommit, IsTag, IsTextOf, AreObjectTexts, object_tip, target_tip, tips_text, AreTipsOf, IsLast, IsStreamText}
 use Rattle.swh_fastgrammar.specs.declared.command.Command.{Command}
 use Rattle.swh_fastgrammar.specs.declared.command.Command.TheVariants.{Reset}

@@ -22,7 +22,7 @@ use Rattle.swh_fastgrammar.specs.declared.command.Change.{Change}
 use Rattle.swh_fastgrammar.specs.declared.command.Change.TheVariants.{Set, Clear}
 use Rattle.swh_fastgrammar.specs.declared.command.Command.{Command}
 use Rattle.swh_fastgrammar.specs.declared.command.Command.TheVariants.{Blob, Commit, Tag, Reset}
-use Rattle.swh_fastcook.specs.Marks.{mark_of}
+use Rattle.swh_marks.specs.Marks.{mark_of}
 use Rattle.swh_fastcook.specs.Stream.{content_name, LeavesBranch}
 
 -- what is said, places aside

@@ -7,7 +7,7 @@ use Rattle.swh_model.specs.Meaning.{Made}
 use Rattle.swh_fastgrammar.specs.declared.command.Command.{Command}
 use Rattle.swh_fastmeaning.specs.Aims.{mark_at}
 use Rattle.swh_fastmeaning.specs.Commands.{Target, Targets, Making, Makes, no_making, steps}
-use Rattle.swh_fastcook.specs.Marks.{is_written, mark_of}
+use Rattle.swh_marks.specs.Marks.{is_written, mark_of}
 
 -- The mark of the name leads to it.
 pub record LeadsTo (order : List Name) (aims : Targets) (name : Name) : Type 0 where

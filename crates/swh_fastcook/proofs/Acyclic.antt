@@ -8,7 +8,7 @@ use Rattle.swh_postorder.specs.Cycle.{ArePreceded}
 use Rattle.swh_postorder.specs.Postorder.{IsPostorder}
 use Rattle.swh_postorder.proofs.Orders.{AtOne, Sooner, Later, cuts, order_once, order_front}
 use Rattle.swh_postorder.proofs.Trips.{first_in}
-use Rattle.swh_fastcook.specs.Marks.{StandOnce}
+use Rattle.swh_marks.specs.Marks.{StandOnce}
 
 module _ (children_of : Name → Option (List Name)) (root : Name) (order : List Name) (is : IsPostorder children_of root order) where
   pub all_once : StandOnce order

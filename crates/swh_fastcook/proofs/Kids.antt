@@ -21,7 +21,7 @@ use Rattle.swh_postorder.specs.Cycle.{ArePreceded}
 use Rattle.swh_postorder.proofs.Preceded.{cut_at}
 use Rattle.swh_postorder.proofs.Trips.{first_in, later_in, none_in, in_cases}
 use Rattle.swh_revfmt.specs.Plain.{PlainRevision, IsPlainRevision, PlainRelease, IsPlainRelease}
-use Rattle.swh_fastcook.specs.Marks.{is_written_kind, is_written}
+use Rattle.swh_marks.specs.Marks.{is_written_kind, is_written}
 use Rattle.swh_fastcook.specs.Tips.{LeadInOrder}
 
 same_body : (a b : List ℕ) → Some a ≡ Some b → a ≡ b

@@ -9,7 +9,6 @@ pub mod Kids
 pub mod Lengths
 pub mod Lines
 pub mod Loads
-pub mod Marked
 pub mod ObjectTexts
 pub mod OneText
 pub mod StreamTexts

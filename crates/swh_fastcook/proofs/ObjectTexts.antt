@@ -13,8 +13,8 @@ use Rattle.swh_pathwalk.specs.Tree.{IsPathWalk}
 use Rattle.swh_fasttext.specs.Text.{blob_text}
 use Rattle.swh_written.specs.Held.{AddsUp, Kept, Goes, Wrote, WroteSome}
 use Rattle.swh_written.proofs.Pieces.{goes_both, front_behind, front_more}
+use Rattle.swh_marks.specs.Marks.{mark_of}
 use Rattle.swh_fastcook.specs.Files.{IsCommitOf}
-use Rattle.swh_fastcook.specs.Marks.{mark_of}
 use Rattle.swh_fastcook.specs.Stream.{IsBlob, IsCommit, IsTag, IsTextOf, IsObjectText, AreObjectTexts, commit_text, tag_text}
 use Rattle.swh_fastcook.proofs.OneText.{one_plain_revision, one_plain_release, one_walk}
 

@@ -4,7 +4,6 @@ pub mod Ends
 pub mod Files
 pub mod Length
 pub mod Loaded
-pub mod Marks
 pub mod Ready
 pub mod Stream
 pub mod Tips

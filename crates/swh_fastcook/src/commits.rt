@@ -9,13 +9,12 @@ ghost use Rattle.swh_postorder.specs.Cycle.{IsSomePostorder, ArePreceded};
 ghost use Rattle.swh_revfmt.specs.PlainReading.{plain_revision, plain_release};
 ghost use Rattle.swh_fasttext.specs.Text.{blob_text, commit_head, tag_head, data_line};
 ghost use Rattle.swh_written.specs.Held.{Wrote, WroteSome, kept};
+ghost use Rattle.swh_marks.specs.Marks.{mark_of, is_written};
 ghost use Rattle.swh_fastcook.specs.Cause.{HasWriteCause};
 ghost use Rattle.swh_fastcook.specs.Files.{IsCommitOf};
-ghost use Rattle.swh_fastcook.specs.Marks.{mark_of, is_written};
 ghost use Rattle.swh_fastcook.specs.Stream.{beginning, commit_front, parents_text, parent_line, tag_text};
 
 use crate::files::write_files;
-use crate::marks::Marks;
 use crate::pieces::{hold, put_line};
 use std::alloc::Global;
 use swh_base::{Bytes, Kind, Memory, Name};
@@ -23,6 +22,7 @@ use swh_carried::CookFault;
 use swh_fasttext::{
     push_begin, push_blob_head, push_commit_head, push_data_line, push_marked, push_tag_head,
 };
+use swh_marks::Marks;
 use swh_model::Look;
 use swh_revfmt::{PlainRel, PlainRev};
 use swh_written::Taker;

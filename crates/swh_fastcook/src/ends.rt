@@ -11,7 +11,6 @@ ghost use Rattle.swh_written.specs.Held.{WroteSome, kept};
 ghost use Rattle.swh_fastcook.specs.Cause.{HasWriteCause};
 ghost use Rattle.swh_fastcook.specs.Ends.{HasRevision, LackCookBranch, end_or_none, main_tip, IsEnd};
 
-use crate::marks::Marks;
 use crate::pieces::hold;
 use crate::tips::write_tips;
 use std::alloc::Global;
@@ -19,6 +18,7 @@ use swh_base::{Kind, Memory, Name};
 use swh_carried::CookFault;
 use swh_fasttext::{push_end, push_tip};
 use swh_graph::{GraphFault, snapshot_at};
+use swh_marks::Marks;
 use swh_model::Look;
 use swh_snpfmt::SpelledBranch;
 use swh_written::Taker;

@@ -8,13 +8,13 @@ ghost use Rattle.swh_fastcook.specs.Files.{IsFileIn, row_at, AreFilesOf};
 ghost use Rattle.swh_written.specs.Held.{WroteSome, kept};
 ghost use Rattle.swh_fastcook.specs.Stream.{file_text};
 
-use crate::marks::Marks;
 use std::alloc::Global;
 use swh_base::{Kind, Memory, Name};
 use swh_carried::CookFault;
 use swh_dirfmt::SpelledEntry;
 use swh_fasttext::{push_file, push_project};
 use swh_heldpaths::{begin, next};
+use swh_marks::Marks;
 use swh_model::Look;
 use swh_written::{Taker, settle};
 

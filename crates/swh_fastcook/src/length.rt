@@ -6,10 +6,10 @@ ghost use Rattle.swh_postorder.specs.Postorder.{IsPostorder};
 ghost use Rattle.swh_fastcarried.specs.Rules.{IsOddObject};
 ghost use Rattle.swh_fastcook.specs.Length.{IsLongStream, HasText};
 
-use crate::marks::Marks;
 use crate::stream::write_stream;
 use std::alloc::Global;
 use swh_base::{Memory, Name};
+use swh_marks::Marks;
 use swh_model::Look;
 use swh_written::Counter;
 

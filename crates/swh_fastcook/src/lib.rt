@@ -1,7 +1,7 @@
 //! Cooking: a name is written as a stream (git-fast-import(1)) of what is reached from it, and a content as its bytes.
-//! Stands on `swh_carried`, which has the order of the objects, on `swh_fastcarried`, which has what a stream cannot carry,
-//! on `swh_pathwalk` and `swh_fasttext`, which have the files of a tree and the text of each command, and on `swh_written`,
-//! which takes a text piece by piece.
+//! Stands on `swh_carried`, which has the order of the objects, on `swh_marks`, which has their marks, on `swh_fastcarried`,
+//! which has what a stream cannot carry, on `swh_pathwalk` and `swh_fasttext`, which have the files of a tree and the text of
+//! each command, and on `swh_written`, which takes a text piece by piece.
 //! Callers may rely on: the first name that is not held is told, or else the first object that a stream cannot carry, before
 //! anything is put; what is put is the text that the definition of streams gives, or a front of it at a failure.
 #![tactic(auto)]
@@ -13,7 +13,6 @@ mod files;
 mod heads;
 mod length;
 mod loaded;
-mod marks;
 mod objects;
 mod pieces;
 mod ready;
@@ -28,7 +27,6 @@ pub use files::write_files;
 pub use heads::head_of;
 pub use length::is_long_stream;
 pub use loaded::loads_many;
-pub use marks::Marks;
 pub use objects::write_objects;
 pub use ready::{Ready, make_ready};
 pub use stream::write_stream;

@@ -10,10 +10,10 @@ ghost use Rattle.swh_fastcook.specs.Cause.{HasWriteCause};
 ghost use Rattle.swh_fastcook.specs.Stream.{IsBlob, IsCommit, IsTag, IsObjectText, AreObjectTexts};
 
 use crate::commits::{write_blob, write_commit, write_tag};
-use crate::marks::Marks;
 use std::alloc::Global;
 use swh_base::{Kind, Name, Shared};
 use swh_carried::CookFault;
+use swh_marks::Marks;
 use swh_model::Look;
 use swh_revfmt::{plain_rel, plain_rev};
 use swh_written::Taker;

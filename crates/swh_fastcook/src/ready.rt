@@ -12,11 +12,11 @@ ghost use Rattle.swh_fastcook.specs.Ready.{IsReady, ExplainsNotReady};
 use crate::heads::head_of;
 use crate::length::is_long_stream;
 use crate::loaded::loads_many;
-use crate::marks::Marks;
 use std::alloc::Global;
 use swh_base::{Bytes, Memory, Name};
 use swh_carried::{CookFault, Why, acyclic_order};
 use swh_fastcarried::first_uncarried;
+use swh_marks::Marks;
 use swh_model::Look;
 
 /// The names that are reached from a root, with their marks, and the head of what is cooked.

@@ -9,12 +9,12 @@ ghost use Rattle.swh_fastcook.specs.Cause.{HasWriteCause};
 ghost use Rattle.swh_fastcook.specs.Stream.{IsStreamText};
 
 use crate::ends::write_end;
-use crate::marks::Marks;
 use crate::objects::write_objects;
 use crate::pieces::hold;
 use std::alloc::Global;
 use swh_base::Name;
 use swh_carried::CookFault;
+use swh_marks::Marks;
 use swh_model::Look;
 use swh_written::{Taker, flush};
 

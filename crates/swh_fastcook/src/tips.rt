@@ -9,10 +9,10 @@ ghost use Rattle.swh_fastcook.specs.Cause.{HasWriteCause};
 ghost use Rattle.swh_fastcook.specs.Stream.{object_tip, target_tip, tips_text};
 ghost use Rattle.swh_fastcook.specs.Tips.{LeadInOrder};
 
-use crate::marks::Marks;
 use swh_base::{Kind, Memory, Name};
 use swh_carried::CookFault;
 use swh_fasttext::push_tip;
+use swh_marks::Marks;
 use swh_snpfmt::{SpelledBranch, SpelledTarget};
 use swh_written::{Taker, settle};
 

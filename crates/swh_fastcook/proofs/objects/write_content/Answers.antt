@@ -1,7 +1,7 @@
 use Rattle.std.proofs.Common.{ℕ, List, refl, subst}
 use Rattle.swh_fasttext.specs.Text.{blob_text}
 use Rattle.swh_written.specs.Held.{Wrote, kept}
-use Rattle.swh_fastcook.specs.Marks.{mark_of}
+use Rattle.swh_marks.specs.Marks.{mark_of}
 use Rattle.swh_fastcook.specs.Stream.{IsBlob}
 use Rattle.swh_fastcook.proofs.ObjectTexts.{one_blob, wrote_one}
 use Rattle.swh_fastcook.proofs.objects.write_content.Goals as goal

@@ -2,8 +2,8 @@ use Rattle.std.proofs.Common.{List, sym, subst}
 use Rattle.std.specs.Prelude.{Contains}
 use Rattle.swh_base.specs.declared.name.Name.{Name}
 use Rattle.swh_postorder.specs.Cycle.{ArePreceded}
+use Rattle.swh_marks.specs.Marks.{StandOnce}
 use Rattle.swh_fastcook.specs.Length.{IsLongStream}
-use Rattle.swh_fastcook.specs.Marks.{StandOnce}
 use Rattle.swh_fastcook.proofs.Acyclic.{all_once}
 use Rattle.swh_fastcook.proofs.EndTexts.{not_so}
 use Rattle.swh_fastcook.proofs.Judged.{all_held, found_whole, root_long, none_long, none_odd}

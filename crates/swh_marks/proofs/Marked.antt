@@ -10,7 +10,7 @@ use Rattle.swh_base.specs.declared.name.Name.{Name}
 use Rattle.swh_base.specs.Name.{name_cmp, name_cmp_total, name_cmp-IsAntisymmetric}
 use Rattle.swh_postorder.proofs.Preceded.{cut_at}
 use Rattle.swh_postorder.proofs.Trips.{first_in, later_in}
-use Rattle.swh_fastcook.specs.Marks.{is_written, written, HasMark, mark_step, mark_of, StandOnce}
+use Rattle.swh_marks.specs.Marks.{is_written, written, HasMark, mark_step, mark_of, StandOnce}
 
 -- ---- names that are written, by their places
 

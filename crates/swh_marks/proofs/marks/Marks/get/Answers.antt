@@ -1,9 +1,9 @@
 use Rattle.std.proofs.Common.{◌≡◌, ◌+◌, ◌∙◌, List, sym, subst}
 use Rattle.std.specs.Prelude.{Contains}
 use Rattle.swh_base.specs.declared.name.Name.{Name}
-use Rattle.swh_fastcook.specs.Marks.{mark_of}
-use Rattle.swh_fastcook.proofs.Marked.{place_of, written_there}
-use Rattle.swh_fastcook.proofs.marks.Marks.get.Goals as goal
+use Rattle.swh_marks.specs.Marks.{mark_of}
+use Rattle.swh_marks.proofs.Marked.{place_of, written_there}
+use Rattle.swh_marks.proofs.marks.Marks.get.Goals as goal
 
 pub place_among-requires : goal.place_among-requires
 place_among-requires c =

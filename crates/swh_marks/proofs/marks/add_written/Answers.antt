@@ -1,7 +1,7 @@
 use Rattle.std.proofs.Common.{◌≡◌, Bool, true, false, cond, [], ◌∷◌, ◌++◌, sym, ap, ◌∙◌}
 use Rattle.std.proofs.lemmas.List.{append-nil}
-use Rattle.swh_fastcook.specs.Marks.{is_written}
-use Rattle.swh_fastcook.proofs.marks.add_written.Goals as goal
+use Rattle.swh_marks.specs.Marks.{is_written}
+use Rattle.swh_marks.proofs.marks.add_written.Goals as goal
 
 pub returns-then-not-is_written : goal.returns-then-not-is_written
 returns-then-not-is_written c =

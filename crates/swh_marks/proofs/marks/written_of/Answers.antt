@@ -2,9 +2,9 @@ use Rattle.std.proofs.Common.{[], ap, ◌∙◌}
 use Rattle.std.proofs.lemmas.List.{take_all}
 use Rattle.swh_base.specs.declared.kind.Kind.TheVariants.{Content}
 use Rattle.swh_base.specs.declared.name.Name.{Name}
-use Rattle.swh_fastcook.specs.Marks.{written}
-use Rattle.swh_fastcook.proofs.Marked.{written_more}
-use Rattle.swh_fastcook.proofs.marks.written_of.Goals as goal
+use Rattle.swh_marks.specs.Marks.{written}
+use Rattle.swh_marks.proofs.Marked.{written_more}
+use Rattle.swh_marks.proofs.marks.written_of.Goals as goal
 
 abbrev none : Name
 none = record { kind = Content; id = [] }

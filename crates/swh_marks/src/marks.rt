@@ -1,6 +1,6 @@
 //! The marks of objects.
 ghost use Rattle.std.specs.Prelude.{◌≡◌, ◌↔◌, ◌++◌, ◌∷◌, ◌<◌, [], IsTrue, IfOk, IfSome, IfNone, OnOk, Contains, length, get_or};
-ghost use Rattle.swh_fastcook.specs.Marks.{is_written, written};
+ghost use Rattle.swh_marks.specs.Marks.{is_written, written};
 
 use std::alloc::Global;
 use std::collections::BTreeMap;
@@ -133,7 +133,7 @@ pub struct Marks {
 impl Model for Marks {
     ghost use Rattle.std.specs.Prelude.{◌≡◌, List};
     ghost use Rattle.swh_base.specs.declared.name.Name.{Name};
-    ghost use Rattle.swh_fastcook.specs.Marks.{written, StandOnce};
+    ghost use Rattle.swh_marks.specs.Marks.{written, StandOnce};
 
     ghost Value = { List Name };
 
@@ -144,7 +144,7 @@ impl Model for Marks {
 
 impl Marks {
     ghost use Rattle.std.specs.Prelude.{◌≡◌, IfOk, true, Contains};
-    ghost use Rattle.swh_fastcook.specs.Marks.{mark_of, is_written, StandOnce};
+    ghost use Rattle.swh_marks.specs.Marks.{mark_of, is_written, StandOnce};
 
     /// The marks of names in this order. Fails where memory runs out.
     pub fn new(alloc: Global, order: Vec<Name>) -> Result<Marks, Memory>
