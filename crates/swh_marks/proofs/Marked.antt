@@ -47,14 +47,17 @@ place_mark (n ∷ ns) p name d less is = step_mark n ns name p d (is_written n) 
 
 -- ---- a mark that is asked for
 
-itself : (name : Name) → is_at (name_cmp name) name ≡ true
+pub itself : (name : Name) → is_at (name_cmp name) name ≡ true
 itself name = ap is_eq (tied_itself name_cmp_total name)
+
+pub same_at : (b name : Name) → is_at (name_cmp b) name ≡ true → b ≡ name
+same_at b name e = name_cmp-IsAntisymmetric b name ((Equal-is (name_cmp b name)).0 e)
 
 another : (b name : Name) → (b ≡ name → ⊥) → is_at (name_cmp b) name ≡ false
 another b name differ = by (is_at (name_cmp b) name) refl
   where
     by : (x : Bool) → is_at (name_cmp b) name ≡ x → is_at (name_cmp b) name ≡ false
-    by true e = absurd (differ (name_cmp-IsAntisymmetric b name ((Equal-is (name_cmp b name)).0 e)))
+    by true e = absurd (differ (same_at b name e))
     by false e = e
 
 one_step : (w : Bool) (b : Name) (ns : List Name) (n : ℕ) → n ≡ length ns + 1 → mark_step w + n ≡ length (cond w (b ∷ ns) ns) + 1

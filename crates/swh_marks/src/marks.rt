@@ -1,6 +1,7 @@
 //! The marks of objects.
-ghost use Rattle.std.specs.Prelude.{◌≡◌, ◌↔◌, ◌++◌, ◌∷◌, ◌<◌, [], IsTrue, IfOk, IfSome, IfNone, OnOk, Contains, length, get_or};
+ghost use Rattle.std.specs.Prelude.{◌≡◌, ◌++◌, ◌∷◌, ◌<◌, [], IfOk, OnOk, Contains, length, get_or};
 ghost use Rattle.swh_marks.specs.Marks.{is_written, written};
+ghost use Rattle.swh_marks.specs.Others.{AreOthers};
 
 use std::alloc::Global;
 use std::collections::BTreeMap;
@@ -49,12 +50,14 @@ fn places_of(alloc: Global, names: &[Name]) -> Places {
     places
 }
 
-/// The places of those of these names that are not found by the first places.
+/// The places of those of these names that the first places do not find, and of no others.
 fn places_of_others(
     alloc: Global,
     places: &Places,
     names: &[Name],
-) -> Result<BTreeMap<Name, usize>, Memory> {
+) -> Result<BTreeMap<Name, usize>, Memory>
+    ensures { IfOk result (AreOthers places.now names.now names.now) }
+{
     let mut others = BTreeMap::new(alloc);
     for (place, name) in names.iter().enumerate() {
         if !places.lead(names, name) {
@@ -64,64 +67,30 @@ fn places_of_others(
     Ok(others)
 }
 
-fn is_same(a: &Name, b: &Name) -> bool
-    ensures { IsTrue result ↔ (a.now ≡ b.now) }
-{
-    a == b
-}
-
-/// The place of a name among these, where these places tell of it. What they tell is looked at before it is believed.
-fn place_by(places: &BTreeMap<Name, usize>, names: &[Name], name: &Name) -> Option<usize>
-    ensures { IfSome result (λ place. (place < length names.now) × (name.now ≡ get_or names.now place name.now)) }
-{
-    let Some(place) = places.get(name) else {
-        return None;
-    };
-    let place = *place;
-    match names.get(place) {
-        Some(found) if is_same(found, name) => Some(place),
-        _ => None,
-    }
-}
-
-/// The first place of a name among these.
-fn first_place(names: &[Name], name: &Name) -> Option<usize>
-    ensures some { IfSome result (λ place. (place < length names.now) × (name.now ≡ get_or names.now place name.now)) }
-    ensures none { IfNone result (Contains names.now name.now → ⊥) }
-{
-    for (place, found) in names.iter().enumerate() {
-        if is_same(found, name) {
-            return Some(place);
-        }
-    }
-    None
-}
-
-/// The place of a name among these. It is mostly found by the first places, and else by the others.
+/// The place of a name among these. It is mostly found by the first places, and else the others have it.
 fn place_among(
     places: &Places,
     others: &BTreeMap<Name, usize>,
     names: &[Name],
     name: &Name,
 ) -> usize
-    requires { Contains names.now name.now }
+    requires there { Contains names.now name.now }
+    requires others { AreOthers places.now names.now names.now others.now }
     ensures less { result < length names.now }
     ensures there { name.now ≡ get_or names.now result name.now }
 {
     if let Some(place) = places.find(names, name) {
         return place;
     }
-    if let Some(place) = place_by(others, names, name) {
-        return place;
-    }
-    match first_place(names, name) {
-        Some(place) => place,
+    match others.get(name) {
+        Some(place) => *place,
         None => unreachable!(),
     }
 }
 
 /// Names in an order, each once, seen as the order. The mark of a name is one more than its place among those that are written.
-/// Mostly that is found by the first places; where strangers have chosen ids that begin alike, the others have it.
+/// Mostly that is found by the first places; where strangers have chosen ids that begin alike, or there is no memory for slots,
+/// the others have it.
 #[derive(Drop)]
 pub struct Marks {
     order: Vec<Name>,
@@ -134,12 +103,14 @@ impl Model for Marks {
     ghost use Rattle.std.specs.Prelude.{◌≡◌, List};
     ghost use Rattle.swh_base.specs.declared.name.Name.{Name};
     ghost use Rattle.swh_marks.specs.Marks.{written, StandOnce};
+    ghost use Rattle.swh_marks.specs.Others.{AreOthers};
 
     ghost Value = { List Name };
 
     ghost view = { λ m. m.order.items };
 
-    ghost invariant = { λ m. StandOnce m.order.items × (m.marked.items ≡ written m.order.items) };
+    ghost invariant = { λ m. StandOnce m.order.items × (m.marked.items ≡ written m.order.items)
+        × AreOthers m.places m.marked.items m.marked.items m.others };
 }
 
 impl Marks {

@@ -1,3 +1,4 @@
 pub mod Cycle
+pub mod Places
 pub mod Postorder
 pub mod Walk

@@ -1,8 +1,9 @@
 //! Where names stand in a list: a name that is looked for is mostly found at once.
-ghost use Rattle.std.specs.Prelude.{◌<◌, ◌^◌, ◌↔◌, ◌≡◌, ℕ, IsTrue, IfSome, Contains, length, get_or};
-ghost use Rattle.swh_postorder.specs.declared.places.Seen.TheVariants.{Here as SeenHere};
+ghost use Rattle.std.specs.Prelude.{◌<◌, ◌%◌, ◌^◌, ◌↔◌, ◌≡◌, ℕ, Some, IsTrue, IfSome, SomeIff, Contains, length, get_or};
+ghost use Rattle.swh_postorder.specs.Places.{number_of, mark_at, Stands, Tells, Leads, IsLed};
 
 use std::alloc::Global;
+use std::marker::Model;
 use swh_base::Name;
 
 /// How many slots are tried for a name. Ids that no stranger has chosen need a few.
@@ -16,9 +17,9 @@ pub(crate) enum Seen {
     Nothing,
 }
 
-/// The places of names in a list, in slots by the first bytes of their ids: one more than the place, or zero for none.
-/// Whatever a slot tells is looked at before it is believed. So where names that strangers have chosen take each other's
-/// slots, or there is no memory for slots, a name is not found, which costs time alone.
+/// The places of names in a list, in slots by the first bytes of their ids, seen as these slots: one more than the place, or
+/// zero for none. Whatever a slot tells is looked at before it is believed. So where names that strangers have chosen take
+/// each other's slots, or there is no memory for slots, a name is not found, which costs time alone.
 #[derive(Drop)]
 pub struct Places {
     slots: Vec<u32>,
@@ -32,9 +33,28 @@ fn is_same(a: &Name, b: &Name) -> bool
 
 /// The number of the first four bytes of a name's id.
 fn number_of(name: &Name) -> usize
-    ensures { result < 2 ^ 32 }
+    ensures number { result ≡ number_of name.now }
+    ensures below { result < 2 ^ 32 }
 {
     u32::from_le_bytes([name.id[0], name.id[1], name.id[2], name.id[3]]) as usize
+}
+
+/// Whether a name stands at this place.
+fn stands(names: &[Name], name: &Name, place: usize) -> bool
+    ensures { IsTrue result ↔ Stands names.now name.now place }
+{
+    match names.get(place) {
+        Some(found) => is_same(found, name),
+        None => false,
+    }
+}
+
+impl Model for Places {
+    ghost use Rattle.std.specs.Prelude.{ℕ, List};
+
+    ghost Value = { List ℕ };
+
+    ghost view = { λ places. places.slots.items };
 }
 
 impl Places {
@@ -68,34 +88,44 @@ impl Places {
     }
 
     /// The slot of a number, if there are any.
-    fn slot(&self, number: usize) -> Option<usize> {
+    fn slot(&self, number: usize) -> Option<usize>
+        ensures { SomeIff result (0 < length self.now) (number % length self.now) }
+    {
         number.checked_rem(self.slots.len())
+    }
+
+    /// What the slot of a number has. Where there are no slots, it is as free.
+    fn mark_at(&self, number: usize) -> u32
+        ensures { result ≡ mark_at self.now number }
+    {
+        let Some(slot) = self.slot(number) else {
+            return 0;
+        };
+        match self.slots.get(slot) {
+            Some(mark) => *mark,
+            None => 0,
+        }
     }
 
     /// What the slot of a number tells of a name among these.
     fn see(&self, names: &[Name], name: &Name, number: usize) -> Seen
-        ensures { (place : ℕ) → result ≡ SeenHere place
-            → (place < length names.now) × (name.now ≡ get_or names.now place name.now) }
+        ensures { Tells self.now names.now name.now number result }
     {
-        let Some(slot) = self.slot(number) else {
+        let mark = self.mark_at(number);
+        if mark == 0 {
             return Seen::Nothing;
-        };
-        let Some(mark) = self.slots.get(slot) else {
-            return Seen::Nothing;
-        };
-        let Some(place) = mark.checked_sub(1) else {
-            return Seen::Nothing;
-        };
-        let place = place as usize;
-        match names.get(place) {
-            Some(found) if is_same(found, name) => Seen::Here { place },
-            _ => Seen::Other,
         }
+        let place = mark as usize - 1;
+        if stands(names, name, place) {
+            return Seen::Here { place };
+        }
+        Seen::Other
     }
 
-    /// The place among these where a name was found. Where it was not, it may be there all the same.
+    /// The place among these where the slots find a name. Where they do not, it may be there all the same.
     pub fn find(&self, names: &[Name], name: &Name) -> Option<usize>
-        ensures { IfSome result (λ place. (place < length names.now) × (name.now ≡ get_or names.now place name.now)) }
+        ensures there { IfSome result (λ place. (place < length names.now) × (name.now ≡ get_or names.now place name.now)) }
+        ensures led { (place : ℕ) → (result ≡ Some place) ↔ Leads self.now names.now name.now place }
     {
         let number = number_of(name);
         for step in 0..TRIES {
@@ -108,9 +138,10 @@ impl Places {
         None
     }
 
-    /// Whether a name was found among these. Where it was not, it may be there all the same.
+    /// Whether the slots find a name among these. Where they do not, it may be there all the same.
     pub fn lead(&self, names: &[Name], name: &Name) -> bool
-        ensures { IsTrue result → Contains names.now name.now }
+        ensures there { IsTrue result → Contains names.now name.now }
+        ensures led { IsTrue result ↔ IsLed self.now names.now name.now }
     {
         match self.find(names, name) {
             Some(_) => true,
