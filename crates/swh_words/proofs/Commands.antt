@@ -1,6 +1,6 @@
 -- What words ask for is one command at most.
 use Rattle.std.proofs.Common.{◌≡◌, ◌∙◌, ℕ, List, [], refl, sym, ap, Option, Some, None, Result, Ok, Err, IfErr, length, get_or, true≢false, ◌≢◌}
-use Rattle.std.specs.Prelude.{codes, if◌then◌else◌, ◌==◌, unwrap_or, IsSomeAnd}
+use Rattle.std.specs.Prelude.{codes, if◌then◌else◌, ◌==◌, unwrap_or, IsSomeAnd, Bool, true, false}
 use Rattle.clap.specs.Words.{Row, Text, all_of, first_of, subcommand_of}
 use Rattle.swh_base.specs.declared.kind.Kind.{Kind}
 use Rattle.swh_base.specs.declared.kind.Kind.TheVariants.{Content, Directory, Revision, Release, Snapshot}
@@ -96,6 +96,14 @@ offered_of (Some given) wanted is = is.offered
 -- what is a command is offered
 pub offered : (words : List (List ℕ)) (wanted : Wanted) → IsCommand words wanted → IsOffered wanted
 offered words wanted is = offered_of (subcommand_of program_app words) wanted is.asked
+
+is_memory : WordsFault → Bool
+is_memory Words = false
+is_memory Memory = true
+
+memory≢words : Memory ≡ Words → ⊥
+unfolding is_memory
+memory≢words e = true≢false (ap is_memory e)
 
 -- an answer to one question is an answer to another that asks for no more
 pub none_of_answer : (r : Result Command WordsFault) (IsAskedFor IsWanted : Wanted → Type 0) → ((w : Wanted) → IsWanted w → IsAskedFor w)
