@@ -8,8 +8,8 @@ Both name the listed definitions that have no comment above them.
 
 MAP has a row for each crate: the libraries that crates.txt says it stands on, and what the crate's first doc comment
 says that callers may rely on. DEFINITIONS lists, for each crate, the definitions of its specs/ that other crates cite,
-in contracts or in definitions of their own, and all of the crate that has `run`: each with its file and the comment
-above it.
+in contracts or in definitions of their own, and all of the crate that has `run` and of those with its parts that print
+and that name: each with its file and the comment above it.
 """
 import pathlib
 import re
@@ -23,7 +23,7 @@ END = "<!-- docs/tables.py writes to here -->"
 DEFINITION = re.compile(r" *(?:pub (record|data)|(?:abbrev|unfoldable) pub) +(\S+)")
 CONSTRUCTOR = re.compile(r" +(\S+) +:")
 USE = re.compile(r"\buse\s+Rattle\.(\w+)\.specs\.(\w+)(?:\.\{([^}]*)\}| as (\w+))?\s*;?$", re.MULTILINE)
-TOP_CALL = re.compile(r"^pub fn run\b", re.MULTILINE)
+TOP_CALL = re.compile(r"^pub fn (run|tell|identify)\b", re.MULTILINE)
 
 
 def stands_on():
@@ -127,7 +127,7 @@ def cited(crates):
 
 
 def has_top_call(crate):
-    """Whether the crate has the call that the program makes."""
+    """Whether the crate has the call that the program makes, or its parts that print and that name."""
     return any(TOP_CALL.search(path.read_text()) for path in (CRATES / crate / "src").glob("**/*.rt"))
 
 
