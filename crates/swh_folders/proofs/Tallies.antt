@@ -57,3 +57,12 @@ tallied-cost base f t counted =
     let parts = cost-parts base nodes in
     let sum = t.sum in
     omega (arith, all, parts, sum)
+
+-- what was counted, with what the lists that were not cost, is what all from the base on cost
+pub tallied-rest : (base : ℕ) (f : Folders) → IsTallied base f → f.entries + cost_from f.counted f ≡ cost_from base f
+tallied-rest base f t =
+    let nodes = f.nodes.items in
+    let here = cost-parts base nodes in
+    let there = cost-parts f.counted nodes in
+    let sum = t.sum in
+    omega (arith, here, there, sum)

@@ -1,6 +1,6 @@
 //! Folders at work: the changes of a commit made to them, and what is no longer needed dropped now and then.
 
-ghost use Rattle.std.specs.Prelude.{◌≡◌, ◌≢◌, ◌≤◌, ◌+◌, ◌*◌, ◌++◌, [], ℕ, IsFalse, IfOk, IfSome, IfNone};
+ghost use Rattle.std.specs.Prelude.{◌≡◌, ◌≢◌, ◌≤◌, ◌<◌, ◌+◌, ◌*◌, ◌++◌, [], ℕ, IsFalse, IfOk, IfSome, IfNone};
 ghost use Rattle.swh_entries.specs.Listed.{cost_of};
 ghost use Rattle.swh_entries.specs.Keys.{texts};
 ghost use Rattle.swh_forest.specs.Kept.{AreAmong};
@@ -18,6 +18,7 @@ ghost use Rattle.swh_folders.specs.Working.{
   spare,
   IsTallied,
   KeepsCounts,
+  IsWithin,
   IsBounded,
 };
 
@@ -69,7 +70,8 @@ impl Folders {
 
 /// What these lists cost, where a `usize` holds it.
 fn sum_of(nodes: &[Packed]) -> Option<usize>
-    ensures { IfSome result (λ n. n ≡ cost_of nodes.now) }
+    ensures sum { IfSome result (λ n. n ≡ cost_of nodes.now) }
+    ensures long { IfNone result (usize.MAX < cost_of nodes.now) }
 {
     let mut sum: usize = 0;
     for node in nodes {
@@ -81,7 +83,8 @@ fn sum_of(nodes: &[Packed]) -> Option<usize>
 /// What is counted, with the lists that are not.
 fn more_of(folders: &Folders) -> Option<usize>
     requires { folders.now.counted ≤ count_of folders.now }
-    ensures { IfSome result (λ n. n ≡ folders.now.entries + cost_from folders.now.counted folders.now) }
+    ensures sum { IfSome result (λ n. n ≡ folders.now.entries + cost_from folders.now.counted folders.now) }
+    ensures long { IfNone result (usize.MAX < folders.now.entries + cost_from folders.now.counted folders.now) }
 {
     let (_, rest) = folders.nodes.as_slice().split_at(folders.counted);
     folders.entries.checked_add(sum_of(rest)?)
@@ -98,13 +101,15 @@ fn is_full(folders: &mut Folders) -> bool
     ensures few { IsFalse result → count_of folders.old ≤ folders.old.most }
     ensures small { IsFalse result → (base : ℕ) → IsTallied base folders.old
         → cost_from base folders.old ≤ folders.old.room }
+    ensures within { (base : ℕ) → IsTallied base folders.old → IsWithin base folders.old → IsFalse result }
 {
+    let room = folders.room;
     let Some(entries) = more_of(folders) else {
         return true;
     };
     folders.counted = folders.nodes.len();
     folders.entries = entries;
-    if folders.entries > folders.room {
+    if entries > room {
         return true;
     }
     folders.nodes.len() > folders.most
@@ -134,7 +139,7 @@ pub fn count_from(folders: &mut Folders, first: usize)
     }
 }
 
-/// The root, after folders that it does not need were dropped where there are many of them.
+/// The root, after folders that it does not need were dropped where there are many of them. Where there are not, all stay.
 pub fn settled(
     alloc: Global,
     folders: &mut Folders,
@@ -149,6 +154,7 @@ pub fn settled(
     ensures names { folders.new.names.items ≡ folders.old.names.items }
     ensures inside { IfOk result (λ r. IsBelow (count_of folders.new) r) }
     ensures bounded { IfOk result (IsBounded base folders.old folders.new) }
+    ensures within { IsWithin base folders.old → (folders.new.nodes.items ≡ folders.old.nodes.items) × (result ≡ Ok root) }
     ensures map { IfOk result (λ r. root_map folders.new r ≡ root_map folders.old root) }
 {
     if !is_full(folders) {

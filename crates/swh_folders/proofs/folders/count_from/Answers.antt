@@ -10,4 +10,4 @@ returns-in-Some-clause-tallied c =
     let none : Folders = record { names = old.names; nodes = old.nodes; known = old.known; counted = c.args.first; entries = 0; room = old.room; most = old.most } in
     let counted : IsTallied c.args.first none = record { from = omega arith; up_to = c.requires; sum = omega arith } in
     let count : c.len-count.result ≡ length old.nodes.items = search rules in
-    tallied-all c.args.first none _ counted refl count c.in-Some.ensures
+    tallied-all c.args.first none _ counted refl count c.in-Some.ensures.sum

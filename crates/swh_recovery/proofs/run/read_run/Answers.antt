@@ -37,12 +37,13 @@ objects-preserved g c =
     let seen = (g.D.Disk.file c.args.store.now).seen in
     let e = c.in_ok-entry.entry in
     let es = c.objects.entries.items in
-    let items : c.push.new.self.items ≡ c.objects.entries.items ++ c.in_ok-entry.entry ∷ [] = search rules in
+    let items : c.push_entry.new.entries.items ≡ c.objects.entries.items ++ c.in_ok-entry.entry ∷ [] = search rules in
     let size : length c.as_slice.result.now ≡ length c.in_ok-entry.entry.body = ap length c.as_slice.ensures in
     let next : c.objects.place + (29 + length c.as_slice.result.now) ≡ c.objects.place + (29 + length c.in_ok-entry.entry.body) = ap (λ (n : ℕ). c.objects.place + (29 + n)) size in
     record {
       place_is = next ∙ place_next es e c.args.from c.objects.place i.place_is c.in_ok-entry.ensures.codable ∙ ap (λ (l : List Entry). c.args.from + length (coded_run l)) (sym items);
       inside = let w = c.in_ok-entry.ensures.whole in let m = c.min-end.ensures in let t = c.if-place-end.false in omega (arith, w, m, t, size);
+      room = search rules;
       objects = subst (AreObjects g.N.Namer.id_of) (sym items) (objects_next g.N.Namer.id_of es e i.objects c.in_ok-entry.ensures.good c.in_ok-entry.ensures.codable);
       begins = λ told.
           let begun = subst (λ (f : File). BeginsWith g.N.Namer.id_of (window f.seen c.objects.place (c.min-end.result - c.objects.place)) e) (i.same told) (c.in_ok-entry.ensures.ok told) in

@@ -1,4 +1,4 @@
-use Rattle.std.proofs.Common.{◌≡◌, ◌+◌, ◌-◌, ◌≤◌, ◌++◌, max, min, length, drop}
+use Rattle.std.proofs.Common.{◌≡◌, ◌+◌, ◌-◌, ◌*◌, ◌≤◌, ◌++◌, max, min, length, drop, vec_len, vec_capacity}
 use Rattle.swh_format.specs.StoredObject.{coded_run}
 use Rattle.swh_recovery.specs.StoreHarm.{AreObjects}
 use Rattle.swh_recovery.specs.Pieces.{IsPieceOf}
@@ -8,6 +8,7 @@ abbrev pub invariant-objects : goal.invariant-objects
 invariant-objects g l = record {
   place_is : l.place ≡ l.from + length (coded_run l.entries.items);
   inside : l.place ≤ max l.from (min l.to l.size);
+  room : vec_capacity l.entries ≤ 2 * vec_len l.entries;
   objects : AreObjects g.N.Namer.id_of l.entries.items;
   begins : g.D.Disk.tells → drop l.from (g.D.Disk.file l.fn.store).seen ≡ coded_run l.entries.items ++ drop l.place (g.D.Disk.file l.fn.store).seen;
   piece : g.D.Disk.tells → IsPieceOf (g.D.Disk.file l.fn.store).seen l.piece;
