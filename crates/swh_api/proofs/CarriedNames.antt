@@ -9,7 +9,7 @@ use Rattle.swh_model.specs.Archive.{Archive, Bodies}
 use Rattle.swh_model.specs.declared.event.Event.{Event}
 use Rattle.swh_model.specs.Step.{IsHistory, replay}
 use Rattle.swh_fastcook.specs.Cook.{IsHeadOf}
-use Rattle.swh_reachedbytes.proofs.Reached.{reached_back}
+use Rattle.swh_fastback.proofs.Reached.{reached_back}
 use Rattle.swh_answer.specs.Shape.{Shape, Cook}
 use Rattle.swh_answer.proofs.Shapes.{one_shape}
 use Rattle.swh_answer.proofs.Unique.{one_core}
@@ -49,7 +49,7 @@ module _ (id : Kind → List ℕ → List ℕ) (h : List Event) (happens : IsHis
         is_order = c.is_order;
         text = text;
         told = told;
-        back = reached_back id h is.children_of name text head c happens is.graph is.is.of_bytes no_content no_directory is.is.is is_head;
+        back = reached_back id h is.children_of name text head c happens is.graph (λ n reached body directory held. is.is.of_bytes n body held) no_content no_directory is.is.is is_head;
       }
   again_by (Missing missing) is told = absurd (omega (arith, good, ap (λ (r : Reply). r.status) told))
   again_by (Uncarried other why) is told = absurd (omega (arith, good, ap (λ (r : Reply). r.status) told))

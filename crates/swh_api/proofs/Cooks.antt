@@ -5,7 +5,7 @@ use Rattle.swh_base.specs.declared.kind.Kind.TheVariants as kind
 use Rattle.swh_base.specs.declared.memory.Memory.{Memory as OutOfMemory}
 use Rattle.swh_base.specs.declared.name.Name.{Name}
 use Rattle.swh_base.specs.declared.request.Reply.{Reply}
-use Rattle.swh_model.specs.Archive.{Bodies, body_of, IsGraphOf}
+use Rattle.swh_model.specs.Archive.{AreAllOfBytes, Bodies, body_of, IsGraphOf}
 use Rattle.swh_postorder.proofs.Stops.{one_order, one_gap, not_order_and_gap}
 use Rattle.swh_carried.specs.declared.fault.Why.{Why}
 use Rattle.swh_carried.specs.declared.fault.CookFault.{CookFault}
@@ -18,8 +18,6 @@ use Rattle.swh_fastcook.specs.Ready.{IsReady, ExplainsNotReady}
 use Rattle.swh_fastcook.specs.Stream.{IsStreamOf, IsStreamText}
 use Rattle.swh_fastcook.proofs.Cooked.{missing_first, content_carried, content_text, ready_carried, stream_text}
 use Rattle.swh_fastcook.proofs.StreamTexts.{one_stream}
-use Rattle.swh_reachedbytes.specs.Reached.{AreReachedOfBytes}
-use Rattle.swh_reachedbytes.proofs.Reached.{content_of_bytes}
 use Rattle.swh_answer.specs.Answers.{SpellsCore, plain_reply}
 use Rattle.swh_answer.proofs.Unique.{one_core}
 use Rattle.swh_api.specs.Carried.{IsCarriedName, HasCookedText}
@@ -91,7 +89,7 @@ module _ (bodies : Bodies) (children_of : Name → Option (List Name)) (graph : 
   not_ready WriteFault h = tt
   not_ready Memory h = tt
 
-  pub written : (other : root.kind ≢ kind.Content) (order : List Name) (head : Option (List ℕ)) → IsReady bodies children_of root order head → AreReachedOfBytes bodies children_of root → (all text : List ℕ) → IsStreamText bodies order root all → text ≡ all → IsCookAnswer bodies root (Cooked text)
+  pub written : (other : root.kind ≢ kind.Content) (order : List Name) (head : Option (List ℕ)) → IsReady bodies children_of root order head → AreAllOfBytes bodies → (all text : List ℕ) → IsStreamText bodies order root all → text ≡ all → IsCookAnswer bodies root (Cooked text)
   written other order head ready bytes all text is same =
       answered (Cooked text)
       (record {
@@ -104,11 +102,11 @@ module _ (bodies : Bodies) (children_of : Name → Option (List Name)) (graph : 
   missing_told (Err e) none told = tt
   missing_told (Ok reply) none told = record { answer = Missing root; is_answer = answered (Missing root) (missing_first bodies children_of graph root none); told = told }
 
-  module _ (is : root.kind ≡ kind.Content) (body : List ℕ) (held : body_of bodies root ≡ Some body) where
+  module _ (is : root.kind ≡ kind.Content) (body : List ℕ) (held : body_of bodies root ≡ Some body) (bytes : AreAllOfBytes bodies) where
     pub content_answer : IsCookAnswer bodies root (Cooked body)
     content_answer = answered (Cooked body) (record {
       carried = content_carried bodies children_of graph root is body held;
-      of_bytes = content_of_bytes bodies children_of root graph is;
+      of_bytes = bytes;
       is = content_text bodies children_of graph root is body held;
     })
 

@@ -4,14 +4,13 @@ use Rattle.std.specs.Prelude.{◌≡◌, ◌≢◌, ◌⊎◌, ℕ, Option, List
 use Rattle.swh_base.specs.declared.kind.Kind.TheVariants.{Directory}
 use Rattle.swh_base.specs.declared.name.Name.{Name}
 use Rattle.swh_base.specs.declared.request.Reply.{Reply}
-use Rattle.swh_model.specs.Archive.{Bodies, IsGraphOf}
+use Rattle.swh_model.specs.Archive.{AreAllOfBytes, Bodies, IsGraphOf}
 use Rattle.swh_postorder.specs.Postorder.{IsFirstMissing}
 use Rattle.swh_carried.specs.declared.fault.Why.{Why}
 use Rattle.swh_carried.specs.Words.{why_word}
 use Rattle.swh_carried.specs.declared.fault.CookFault.{CookFault}
 use Rattle.swh_carried.specs.declared.fault.CookFault.TheVariants.{NotHeld, WriteFault, Memory, Uncarried as IsNotCarried}
 use Rattle.swh_fastcook.specs.Cook.{IsCarriedStream, IsUncarriedStream, IsCookedText}
-use Rattle.swh_reachedbytes.specs.Reached.{AreReachedOfBytes}
 use Rattle.swh_answer.specs.Json.{uncarried_data, tree_reply}
 use Rattle.swh_answer.specs.Answers.{SpellsCore, bad_text, not_held, plain_reply}
 
@@ -23,11 +22,11 @@ pub data CookAnswer : Type 0 where
 
 -- what is answered of a root, over a graph
 module _ (bodies : Bodies) (children_of : Name → Option (List Name)) (root : Name) where
-  -- A stream carries all that is reached, and the root is cooked to this text. The directories that are reached are made of
-  -- bytes, as all is that lies in memory.
+  -- A stream carries all that is reached, and the root is cooked to this text. The bodies are made of bytes, as all is
+  -- that lies in memory.
   pub record IsCookedTo (text : List ℕ) : Type 0 where
     pub carried : IsCarriedStream bodies children_of root
-    pub of_bytes : AreReachedOfBytes bodies children_of root
+    pub of_bytes : AreAllOfBytes bodies
     pub is : IsCookedText bodies children_of root text
 
   abbrev pub AnswersCook : CookAnswer → Type 0

@@ -19,7 +19,6 @@ use swh_base::{Kind, Memory, Name, Reply, Shared};
 use swh_carried::{CookFault, why_word};
 use swh_fastcook::{make_ready, write_stream};
 use swh_model::Look;
-use swh_reachedbytes::know_reached;
 
 // The reply that tells why a name has no text. A text in memory is broken off for want of memory alone.
 fn cook_fault_reply(alloc: Global, fault: CookFault) -> Result<Reply, Memory>
@@ -39,11 +38,11 @@ fn cooked_text<L: Look>(alloc: Global, look: &L, name: Name) -> Result<Vec<u8>, 
     ensures err { IfErr result (RefusesCook (L.archive look.now).bodies name) }
 {
     look.is_graph();
+    look.is_of_bytes();
     let ready = match make_ready(alloc, look, name) {
         Ok(ready) => ready,
         Err(fault) => return Err(fault),
     };
-    know_reached(look, &name, ready.marks.order());
     let mut collected = Collected::new(alloc);
     match write_stream(alloc, look, &ready.marks, name, &mut collected) {
         Ok(()) => Ok(collected.into_bytes()),
@@ -57,6 +56,7 @@ fn content_told<L: Look>(alloc: Global, look: &L, name: Name) -> Result<Reply, M
     ensures { IfOk result (TellsCook (L.archive look.now).bodies name) }
 {
     look.is_graph();
+    look.is_of_bytes();
     let Some(held) = look.body(&name) else {
         return not_held(alloc, &name);
     };

@@ -3,14 +3,13 @@ use Rattle.std.proofs.Common.{◌≡◌, inl, inr, ℕ, Option, None, List, sym,
 use Rattle.swh_base.specs.declared.kind.Kind.{Kind}
 use Rattle.swh_base.specs.declared.kind.Kind.TheVariants.{Directory, Snapshot}
 use Rattle.swh_base.specs.declared.name.Name.{Name}
-use Rattle.swh_model.specs.Archive.{Bodies}
+use Rattle.swh_model.specs.Archive.{AreAllOfBytes, Bodies}
 use Rattle.swh_carried.specs.declared.fault.Why.{Why}
 use Rattle.swh_carried.specs.declared.fault.CookFault.{CookFault}
 use Rattle.swh_carried.specs.declared.fault.CookFault.TheVariants.{NotHeld, Uncarried, WriteFault, Memory}
 use Rattle.swh_fastcook.specs.Cook.{LeadsHead}
 use Rattle.swh_dircook.specs.Cook.{IsFolderOf, MakesFolder, MakesFrontOfFolder, IsCarriedFolder, IsUncarriedFolder, ExplainsNoFolder}
 use Rattle.swh_dircook.specs.Made.{Made, Yarded}
-use Rattle.swh_reachedbytes.specs.Reached.{AreReachedOfBytes}
 use Rattle.swh_cook.specs.Cook.{AreMadeOf, AreMade, IsCarriedOf, IsCarried, IsUncarriedOf, IsUncarried, MakesFront, IsCooked, IsBrokenOff, ExplainsUncooked}
 
 module _ (bodies : Bodies) (children_of : Name → Option (List Name)) (root : Name) (kind : root.kind ≡ Directory) where
@@ -28,7 +27,7 @@ module _ (bodies : Bodies) (children_of : Name → Option (List Name)) (root : N
   no_head target h = let e : Directory ≡ Snapshot = sym kind ∙ h.kind in cc
 
   module _ (out : List ℕ) (tells : Type 0) (old new : Yarded) where
-    pub whole_folder : AreReachedOfBytes bodies children_of root → IsCarriedFolder bodies children_of root → (tells → MakesFolder bodies root out old new) → IsCooked bodies children_of root out tells old new None
+    pub whole_folder : AreAllOfBytes bodies → IsCarriedFolder bodies children_of root → (tells → MakesFolder bodies root out old new) → IsCooked bodies children_of root out tells old new None
     whole_folder bytes carried makes = record {
       carried = carried_folder carried;
       of_bytes = bytes;

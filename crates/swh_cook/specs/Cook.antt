@@ -3,7 +3,7 @@ use Rattle.std.specs.Prelude.{◌≡◌, ◌⊎◌, ℕ, Option, List, [], ◌�
 use Rattle.swh_base.specs.declared.kind.Kind.{Kind}
 use Rattle.swh_base.specs.declared.kind.Kind.TheVariants.{Content, Directory, Revision, Release, Snapshot}
 use Rattle.swh_base.specs.declared.name.Name.{Name}
-use Rattle.swh_model.specs.Archive.{Bodies}
+use Rattle.swh_model.specs.Archive.{AreAllOfBytes, Bodies}
 use Rattle.swh_postorder.specs.Postorder.{IsFirstMissing}
 use Rattle.swh_carried.specs.declared.fault.Why.{Why}
 use Rattle.swh_carried.specs.declared.fault.CookFault.{CookFault}
@@ -11,7 +11,6 @@ use Rattle.swh_carried.specs.declared.fault.CookFault.TheVariants.{NotHeld, Unca
 use Rattle.swh_fastcook.specs.Cook.{IsHeadOf, IsCarriedStream, IsUncarriedStream, IsCookedText}
 use Rattle.swh_dircook.specs.Cook.{IsFolderOf, IsCarriedFolder, IsUncarriedFolder}
 use Rattle.swh_dircook.specs.Made.{Made, FileMade, Yarded, after_made, MakesSome}
-use Rattle.swh_reachedbytes.specs.Reached.{AreReachedOfBytes}
 
 module _ (bodies : Bodies) (children_of : Name → Option (List Name)) (root : Name) where
   -- This is the one file of the root's text.
@@ -70,10 +69,10 @@ module _ (bodies : Bodies) (children_of : Name → Option (List Name)) (root : N
     pub front : MakesSome old made new
 
   -- The root was cooked, and this is its head: where the alias `HEAD` of a snapshot leads. What was made is told by a yard
-  -- that tells. The directories that are reached are made of bytes, as all is that lies in memory.
+  -- that tells. The bodies are made of bytes, as all is that lies in memory.
   pub record IsCooked (out : List ℕ) (tells : Type 0) (old new : Yarded) (head : Option (List ℕ)) : Type 0 where
     pub carried : IsCarried
-    pub of_bytes : AreReachedOfBytes bodies children_of root
+    pub of_bytes : AreAllOfBytes bodies
     pub is_head : IsHeadOf bodies root head
     pub made : tells → MakesAll out old new
 

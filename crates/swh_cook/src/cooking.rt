@@ -1,9 +1,7 @@
 //! A name becomes a folder or a file.
-ghost use Rattle.std.specs.Prelude.{◌≡◌, IfOk, IfErr, OnOk};
+ghost use Rattle.std.specs.Prelude.{◌≡◌, IfOk, IfErr};
 ghost use Rattle.swh_base.specs.declared.kind.Kind.TheVariants.{Directory as DirectoryKind};
-ghost use Rattle.swh_postorder.specs.Walk.{ExplainsOrder};
 ghost use Rattle.swh_carried.specs.Cause.{HasCookCause};
-ghost use Rattle.swh_reachedbytes.specs.Reached.{AreReachedOfBytes};
 ghost use Rattle.swh_dircook.specs.Made.{yarded};
 ghost use Rattle.swh_cook.specs.Cook.{IsCooked, ExplainsUncooked};
 
@@ -14,23 +12,6 @@ use swh_carried::CookFault;
 use swh_dircook::cook_dir;
 use swh_model::Look;
 use swh_outside::Yard;
-use swh_postorder::{OrderFault, postorder};
-use swh_reachedbytes::know_reached;
-
-/// Knows of the directories that are reached from a name that they are made of bytes. Fails with the first name that a walk
-/// enters and that is not held, or where memory runs out.
-fn know_all<L: Look>(alloc: Global, look: &L, name: Name) -> Result<(), OrderFault>
-    ensures ok { OnOk result (AreReachedOfBytes (L.archive look.now).bodies (L.children_of look.now) name) }
-    ensures err { IfErr result (ExplainsOrder (L.children_of look.now) name) }
-{
-    match postorder(alloc, look, name) {
-        Ok(order) => {
-            know_reached(look, &name, order.as_slice());
-            Ok(())
-        }
-        Err(fault) => Err(fault),
-    }
-}
 
 /// Cooks a directory.
 fn cook_folder<L: Look, Y: Yard>(
@@ -48,13 +29,10 @@ fn cook_folder<L: Look, Y: Yard>(
         (yarded (Y.Sink.begun yard.old) (Y.Sink.taken yard.old)) (yarded (Y.Sink.begun yard.new) (Y.Sink.taken yard.new))) }
     ensures cause { HasCookCause (Y.Sink.faults yard.old) (Y.Sink.faults yard.new) result }
 {
-    match know_all(alloc, look, name) {
-        Ok(()) => match cook_dir(alloc, look, name, yard, out) {
-            Ok(()) => Ok(None),
-            Err(fault) => Err(fault),
-        },
-        Err(OrderFault::NotHeld { name }) => Err(CookFault::NotHeld { name }),
-        Err(OrderFault::Memory) => Err(CookFault::Memory),
+    look.is_of_bytes();
+    match cook_dir(alloc, look, name, yard, out) {
+        Ok(()) => Ok(None),
+        Err(fault) => Err(fault),
     }
 }
 

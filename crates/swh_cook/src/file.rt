@@ -13,7 +13,6 @@ use swh_carried::CookFault;
 use swh_fastcook::{make_ready, write_stream};
 use swh_model::Look;
 use swh_outside::{OutFault, Yard};
-use swh_reachedbytes::know_reached;
 
 /// Begins the file at a path.
 fn begin_file<Y: Yard>(yard: &mut Y, out: &str) -> Result<(), CookFault>
@@ -46,6 +45,7 @@ pub fn cook_content<L: Look, Y: Yard>(
     ensures cause { HasCookCause (Y.Sink.faults yard.old) (Y.Sink.faults yard.new) result }
 {
     look.is_graph();
+    look.is_of_bytes();
     let Some(body) = look.body(&name) else {
         return Err(CookFault::NotHeld { name });
     };
@@ -76,11 +76,11 @@ pub fn cook_stream<L: Look, Y: Yard>(
     ensures cause { HasCookCause (Y.Sink.faults yard.old) (Y.Sink.faults yard.new) result }
 {
     look.is_graph();
+    look.is_of_bytes();
     let ready = match make_ready(alloc, look, name) {
         Ok(ready) => ready,
         Err(fault) => return Err(fault),
     };
-    know_reached(look, &name, ready.marks.order());
     if let Err(fault) = begin_file(yard, out) {
         return Err(fault);
     }

@@ -25,3 +25,4 @@ pub mod SnapshotRoots
 pub mod FolderLists
 pub mod LoadingBack
 pub mod Histories
+pub mod Reached

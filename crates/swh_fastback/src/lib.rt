@@ -3,20 +3,17 @@
 //! Stands on `swh_fastcook` for the text, and on `swh_fastgrammar`, `swh_fastrows`, `swh_fastmeaning` and `swh_fastload` for
 //! what a text is and means.
 //! Callers may rely on: the text of what a stream carries, with the head that is told, means the snapshot that its root loads
-//! as, and makes nothing else but what is held; that directories are made of bytes, as the laws ask, is known of what lies in
-//! memory.
+//! as, and makes nothing else but what is held.
 #![tactic(auto)]
 
 mod archives;
 mod back;
-mod bytes;
 mod grammar;
 mod meaning;
 mod trees;
 
 pub use archives::histories_hold_named_bodies;
-pub use back::{streams_load_back, what_was_cooked_loads_back};
-pub use bytes::know_bytes;
+pub use back::{reached_streams_load_back, streams_load_back, what_was_cooked_loads_back};
 pub use grammar::cooked_texts_are_streams;
 pub use meaning::objects_are_made_again;
 pub use trees::{files_make_their_directory, folders_are_held};

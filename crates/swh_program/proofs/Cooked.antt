@@ -263,7 +263,7 @@ module _ (s : Span) (name : Name) (is_name : IsName name) (out : List ℕ) (stat
     is_again : (told : s.told.yard) → IsAgain s.id_of (replay h).bodies c.children_of name out (c.cooked.made told).made c.head
     is_again told =
         let made = c.cooked.made told in
-        made_again s.id_of h c.children_of name out made.made c.head happens c.graph is_name c.cooked.of_bytes c.cooked.is_head c.cooked.carried made.are
+        made_again s.id_of h c.children_of name out made.made c.head happens c.graph is_name (λ n reached body directory held. c.cooked.of_bytes n body held) c.cooked.is_head c.cooked.carried made.are
 
     pub prints_cooked : (s.told.sink → s.new.sink.taken ≡ s.old.sink.taken ++ text) → PrintsCooked (replay h) name out s status
     prints_cooked printed = record { text = text; cooked = c; again = is_again; printed = printed; status_is = zero }

@@ -9,4 +9,4 @@ pub returns : goal.returns
 returns g c =
     let bodies = (g.L.Look.archive c.args.look.now).bodies in
     text_told bodies c.args.name c.in-Some.held.now c.in_ok-body.body
-    (content_answer bodies (g.L.Graph.children_of c.args.look.now) c.is_graph.ensures c.args.name c.requires c.in-Some.held.now c.in-Some.ensures.held) c.in_ok-body.ensures
+    (content_answer bodies (g.L.Graph.children_of c.args.look.now) c.is_graph.ensures c.args.name c.requires c.in-Some.held.now c.in-Some.ensures.held c.is_of_bytes.ensures) c.in_ok-body.ensures

@@ -21,5 +21,5 @@ write_stream-requires-clause-plain g c =
 pub returns-in-Ok-write_stream-clause-ok : goal.returns-in-Ok-write_stream-clause-ok
 returns-in-Ok-write_stream-clause-ok g c =
     let wrote = c.in-Ok-write_stream.ensures.ok in
-    written (g.L.Look.archive c.args.look.now).bodies (g.L.Graph.children_of c.args.look.now) c.is_graph.ensures c.args.name c.requires c.in-Ok.ready.marks c.in-Ok.ready.head c.in-Ok.ensures.ok c.know_reached.ensures wrote.0 _ wrote.1
+    written (g.L.Look.archive c.args.look.now).bodies (g.L.Graph.children_of c.args.look.now) c.is_graph.ensures c.args.name c.requires c.in-Ok.ready.marks c.in-Ok.ready.head c.in-Ok.ensures.ok c.is_of_bytes.ensures wrote.0 _ wrote.1
     (c.into_bytes.ensures ∙ wrote.2.bytes tt ∙ ap (λ (l : List ℕ). l ++ wrote.0) c.new-collected.ensures)

@@ -3,7 +3,6 @@ use Rattle.swh_base.specs.declared.kind.Kind.{Kind}
 use Rattle.swh_base.specs.declared.kind.Kind.TheVariants.{Content, Directory}
 use Rattle.swh_outside.specs.Sink.{TakesSome}
 use Rattle.swh_fastcook.proofs.Cooked.{missing_first, content_carried, content_text, not_snapshot}
-use Rattle.swh_reachedbytes.proofs.Reached.{content_of_bytes}
 use Rattle.swh_cook.proofs.Files.{carried_name, makes_file, makes_none, makes_put, breaks_off}
 use Rattle.swh_cook.proofs.file.cook_content.Goals as goal
 
@@ -40,7 +39,7 @@ returns-in-Ok-clause-ok g c =
     let put = rw c.as_slice.ensures at c.in-Ok.ensures.bytes in
     record {
       carried = carried_name bodies children c.args.name other carried;
-      of_bytes = content_of_bytes bodies children c.args.name c.is_graph.ensures c.requires;
+      of_bytes = c.is_of_bytes.ensures;
       is_head = not_snapshot bodies children c.is_graph.ensures c.args.name c.requires body c.in-Some.ensures.held;
       made = λ t. makes_file bodies children c.args.name other c.args.out.now body is _ _ _ _
           (c.in-Ok.ensures.same_begun ∙ begun.begun t) ((put t).ok ∙ ap (λ (l : List ℕ). l ++ body) (begun.same_taken t));

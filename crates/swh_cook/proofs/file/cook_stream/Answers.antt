@@ -42,7 +42,7 @@ returns-in-Ok-write_stream-clause-ok g c =
     let begun = c.in_default.ensures in
     record {
       carried = carried_name bodies children c.args.name other carried;
-      of_bytes = c.know_reached.ensures;
+      of_bytes = c.is_of_bytes.ensures;
       is_head = c.in-Ok.ensures.ok.is_head;
       made = λ told. makes_file bodies children c.args.name other c.args.out.now wrote.0 is _ _ _ _
           (wrote.2.begun_same ∙ begun.begun told) (wrote.2.bytes told ∙ ap (λ (l : List ℕ). l ++ wrote.0) (begun.same_taken told));

@@ -4,37 +4,22 @@ use Rattle.std.specs.Prelude.{Contains}
 use Rattle.swh_base.specs.declared.kind.Kind.{Kind}
 use Rattle.swh_base.specs.declared.kind.Kind.TheVariants.{Content, Directory, Revision, Release, Snapshot}
 use Rattle.swh_base.specs.declared.name.Name.{Name}
-use Rattle.swh_base.specs.Manifest.{AreChildren}
 use Rattle.swh_model.specs.Archive.{Bodies, IsGraphOf}
 use Rattle.swh_model.specs.declared.event.Event.{Event}
 use Rattle.swh_model.specs.Step.{IsHistory, replay}
 use Rattle.swh_postorder.specs.Postorder.{IsPostorder}
 use Rattle.swh_postorder.proofs.Orders.{order_are}
 use Rattle.swh_postorder.proofs.Stops.{one_order}
-use Rattle.swh_postorder.proofs.Trips.{none_in}
 use Rattle.swh_fastcook.specs.Cook.{IsCarriedStream, IsCookedText, IsHeadOf, IsTextOfKind}
 use Rattle.swh_fastcook.specs.Stream.{IsStreamText, IsStreamOf}
 use Rattle.swh_fastback.specs.LoadsBack.{LoadsBack}
-use Rattle.swh_reachedbytes.specs.Reached.{AreReachedOfBytes}
-use Rattle.swh_fastback.specs.Sound.{AreInLimit, AreNamed, AreOfBytes}
+use Rattle.swh_fastback.specs.Sound.{AreInLimit, AreNamed, AreOfBytes, AreReachedOfBytes}
 use Rattle.swh_fastback.proofs.Histories.{named_bodies, bodies_in_limit}
 use Rattle.swh_fastback.proofs.LoadingBack.{loads_back}
 
 module _ (bodies : Bodies) (children_of : Name → Option (List Name)) (root : Name) (order : List Name) (is_order : IsPostorder children_of root order) where
-  pub reached_of_bytes : AreOfBytes bodies order → AreReachedOfBytes bodies children_of root
-  reached_of_bytes bytes n reached = bytes n ((order_are children_of root order is_order n).1 reached)
-
   pub order_of_bytes : AreReachedOfBytes bodies children_of root → AreOfBytes bodies order
   order_of_bytes bytes n there = bytes n ((order_are children_of root order is_order n).0 there)
-
--- a content reaches no directory
-pub content_of_bytes : (bodies : Bodies) (children_of : Name → Option (List Name)) (root : Name) → IsGraphOf bodies children_of → root.kind ≡ Content → AreReachedOfBytes bodies children_of root
-content_of_bytes bodies children_of root graph kind n ([], same) body is held = absurd (let e : Content ≡ Directory = sym kind ∙ ap (λ (m : Name). m.kind) same ∙ is in cc)
-content_of_bytes bodies children_of root graph kind n (next ∷ nodes, walk) body is held =
-    let kid = walk.0 in
-    let has = graph.held root kid.kids kid.held in
-    let none : kid.kids ≡ [] = subst (λ (k : Kind). AreChildren k has.0 kid.kids) kind has.2 in
-    absurd (none_in next (subst (λ (ns : List Name). Contains ns next) none kid.one_of))
 
 module _ (id : Kind → List ℕ → List ℕ) (bodies : Bodies) (children_of : Name → Option (List Name)) (root : Name) (text : List ℕ) (head : Option (List ℕ)) where
   stream_of : (kind : Kind) → kind ≢ Content → IsTextOfKind bodies children_of root kind text → IsStreamOf bodies children_of root text
