@@ -1,4 +1,7 @@
 // Where a file of an archive stands, and what keeps its name.
+ghost use Rattle.std.specs.Prelude.{◌≡◌, ◌↔◌, IsTrue, IsOk, if◌then◌else◌};
+
+use crate::barrier::barrier_of;
 use crate::opening::{Access, lock_file, open_ordinary};
 use std::alloc::{AllocError, Global};
 use std::fs::File;
@@ -70,11 +73,12 @@ impl Place {
 
     /// What the first barrier owes, when the file has been opened: a run before this one may have been killed between
     /// making the file and that barrier. No ledger is made before the folders above are synced.
-    pub fn names<R: Files<File = File>>(&self, rt: &R, access: Access) -> Names {
+    pub fn names<R: Files<File = File>>(&self, rt: &R, access: Access) -> Names
+        ensures { (result ≡ Names.Settled) ↔ (access ≡ Access.Read) }
+    {
         match access {
             Access::Read => Names::Settled,
-            Access::Write | Access::Make if is_made(rt, self.ledger.as_str()) => Names::Own,
-            Access::Write | Access::Make => Names::All,
+            Access::Write | Access::Make => owed(is_made(rt, self.ledger.as_str())),
         }
     }
 
@@ -91,6 +95,20 @@ impl Place {
     }
 }
 
+// What is owed to the name of a file that may be written, by whether the ledger beside it has all of its beginning.
+fn owed(is_made: bool) -> Names
+    ensures { result ≡ (if is_made then Names.Own else Names.All) }
+{
+    if is_made { Names::Own } else { Names::All }
+}
+
+// Whether these are the first bytes of a ledger that has all of its beginning, by what a read of them came to.
+fn begins(read: &io::Result<()>, first: u8) -> bool
+    ensures { IsTrue result ↔ (IsOk read.now × (first ≡ 83)) }
+{
+    read.is_ok() && first == b'S'
+}
+
 // The ledger has all of its beginning, of which the first byte was written last. Where that cannot be seen it is taken
 // for one that is not made, since then more is synced.
 fn is_made<R: Files<File = File>>(rt: &R, ledger: &str) -> bool {
@@ -98,10 +116,8 @@ fn is_made<R: Files<File = File>>(rt: &R, ledger: &str) -> bool {
         return false;
     };
     let mut beginning = [0; 9];
-    match file.read_exact_at(&mut beginning, 0) {
-        Ok(()) => beginning[0] == b'S',
-        Err(_) => false,
-    }
+    let read = file.read_exact_at(&mut beginning, 0);
+    begins(&read, beginning[0])
 }
 
 fn sync_folder<R: Files<File = File>>(rt: &R, folder: &str) -> io::Result<()> {
@@ -130,8 +146,5 @@ fn sync_if_allowed<R: Files<File = File>>(rt: &R, folder: &str) -> io::Result<()
         Err(fault) if fault.kind() == ErrorKind::PermissionDenied => return Ok(()),
         Err(fault) => return Err(fault),
     };
-    match file.sync_all() {
-        Err(fault) if fault.kind() == ErrorKind::InvalidInput => Ok(()),
-        synced => synced,
-    }
+    barrier_of(file.sync_all(), Access::Read)
 }
