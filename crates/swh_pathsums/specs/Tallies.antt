@@ -1,8 +1,8 @@
 -- What rows sum up to, whose paths are those from one directory.
 use Rattle.std.specs.Prelude.{◌≡◌, ◌≢◌, ◌⊎◌, ◌+◌, ◌*◌, ◌-◌, ◌^◌, ℕ, Bool, true, false, Option, Some, List, [], ◌∷◌, ◌++◌, length, map, min, Contains}
-use Rattle.std.specs.Option.{option_map}
 use Rattle.std.specs.List.{flat_map, list_any}
 use Rattle.std.specs.BTreeMap.{BTreeMap, get}
+use Rattle.swh_base.specs.declared.kind.Kind.TheVariants.{Directory}
 use Rattle.swh_base.specs.declared.name.Name.{Name}
 use Rattle.swh_base.specs.Name.{name_cmp}
 use Rattle.swh_base.specs.Directory.{DirectoryEntry}
@@ -101,9 +101,5 @@ module _ (bodies : Bodies) (weigh : DirectoryEntry → Weight) where
 
   -- The same of a name, where it is a directory's.
   pub record GetsTallyOf (old : BTreeMap Name Tally) (name : Name) (new : BTreeMap Name Tally) : Type 0 where
-    pub has : (id : List ℕ) → name ≡ directory_name id → HasTally new id
+    pub has : name.kind ≡ Directory → HasTally new name.id
     pub stay : (other : List ℕ) → HasTally old other → HasTally new other
-
--- the lengths by the names
-abbrev pub lengths_in : BTreeMap Name Tally → Name → Option ℕ
-lengths_in sums name = option_map total_of (get name_cmp sums name)

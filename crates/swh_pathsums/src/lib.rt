@@ -11,4 +11,5 @@ mod tally;
 mod weight;
 
 pub use sums::{PathSums, length_under, path_sums};
+pub use tally::plus;
 pub use weight::{Weigh, Weight};

@@ -18,7 +18,6 @@ use crate::tally::{Tally, behind, both, length_of, of_row, spell};
 use crate::weight::Weigh;
 use std::alloc::Global;
 use std::collections::BTreeMap;
-use std::marker::Model;
 use swh_base::{Kind, Memory, Name};
 use swh_dirfmt::SpelledEntry;
 use swh_graph::{GraphFault, directory_at};
@@ -27,20 +26,10 @@ use swh_model::Look;
 /// The mode of a folder, its digits read as a decimal number.
 const FOLDER: u32 = 40_000;
 
-/// How long the texts of all rows under a directory are together, by the directories, seen as the function that has this length.
+/// How long the texts of all rows under a directory are together, by the directories.
 #[derive(Drop)]
 pub struct PathSums {
     sums: BTreeMap<Name, Tally>,
-}
-
-impl Model for PathSums {
-    ghost use Rattle.std.specs.Prelude.{ℕ, Option};
-    ghost use Rattle.swh_base.specs.declared.name.Name.{Name};
-    ghost use Rattle.swh_pathsums.specs.Tallies.{lengths_in};
-
-    ghost Value = { Name → Option ℕ };
-
-    ghost view = { λ s. lengths_in s.sums };
 }
 
 /// The sums of a directory that was taken apart.
@@ -215,11 +204,11 @@ pub fn path_sums<L: Look, W: Weigh>(
 
 impl PathSums {
     ghost use Rattle.std.specs.Prelude.{◌≡◌};
-    ghost use Rattle.swh_graph.specs.Path.{directory_name};
+    ghost use Rattle.swh_pathsums.specs.Sums.{length_at};
 
     /// The length of a directory, if it was found.
     pub fn get(&self, directory: [u8; 20]) -> Option<u64>
-        ensures { result ≡ self.now (directory_name directory) }
+        ensures { result ≡ length_at self.now directory }
     {
         let kind = Kind::Directory;
         let id = directory;

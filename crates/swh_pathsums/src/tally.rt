@@ -1,12 +1,12 @@
 //! What the rows under a directory sum up to, as far as numbers go.
-ghost use Rattle.std.specs.Prelude.{◌≡◌, ◌+◌, ◌*◌, ◌++◌, ◌∷◌, [], ℕ, List, length, map};
+ghost use Rattle.std.specs.Prelude.{◌≡◌, if◌then◌else◌, ◌+◌, ◌*◌, ◌++◌, ◌∷◌, [], ℕ, List, length, map};
 ghost use Rattle.std.specs.List.{flat_map, list_any};
 ghost use Rattle.swh_base.specs.Directory.{DirectoryEntry};
 ghost use Rattle.swh_fasttext.specs.Quoted.{is_quoted_byte, quoted_byte};
 ghost use Rattle.swh_pathwalk.specs.Tree.{Row};
 ghost use Rattle.swh_pathsums.specs.declared.weight.Weight.{Weight as Weighed};
 ghost use Rattle.swh_pathsums.specs.Lengths.{IsUpTo};
-ghost use Rattle.swh_pathsums.specs.Tallies.{Tallies, IsSpelling, where_written, row_behind, total_of};
+ghost use Rattle.swh_pathsums.specs.Tallies.{Tallies, IsSpelling, one_if, where_written, row_behind, total_of};
 
 use crate::weight::Weight;
 
@@ -27,14 +27,16 @@ pub struct Spelling {
     pub bytes: u64,
 }
 
-/// A sum, as far as a number goes.
-fn plus(a: u64, b: u64) -> u64
+/// A sum, as far as a number goes: exact, or above 2 to the 32nd where the true one is.
+#[tactic(auto, using(crate::proofs::UpTo::up_plus))]
+pub fn plus(a: u64, b: u64) -> u64
     ensures { (m n : ℕ) → IsUpTo m a → IsUpTo n b → IsUpTo (m + n) result }
 {
     a.saturating_add(b)
 }
 
 /// A product, as far as a number goes.
+#[tactic(auto, using(crate::proofs::UpTo::up_times))]
 fn times(a: u64, b: u64) -> u64
     ensures { (m n : ℕ) → IsUpTo m a → IsUpTo n b → IsUpTo (m * n) result }
 {
@@ -114,6 +116,16 @@ fn where_written(with_path: bool, count: u64) -> u64
     0
 }
 
+/// One for what is so.
+fn one_if(so: bool) -> u64
+    ensures { result ≡ one_if so }
+{
+    if so {
+        return 1;
+    }
+    0
+}
+
 /// What a row sums up to, whose path is spelled like this.
 pub(crate) fn of_row(weight: Weight, path: Spelling) -> Tally
     ensures { (weigh : DirectoryEntry → Weighed) (row : Row) → weigh row.entry ≡ weight → IsSpelling row.path path
@@ -121,10 +133,20 @@ pub(crate) fn of_row(weight: Weight, path: Spelling) -> Tally
 {
     Tally {
         paths: where_written(weight.with_path, 1),
-        quoted: where_written(weight.with_path, path.quoted as u64),
+        quoted: where_written(weight.with_path, one_if(path.quoted)),
         bytes: weight.bytes,
         spelled: where_written(weight.with_path, path.bytes),
     }
+}
+
+/// How many of some rows have quoted paths behind the name of a folder: all that have paths, where the name is quoted.
+fn quoted_behind(folder: Spelling, inner: Tally) -> u64
+    ensures { result ≡ if folder.quoted then inner.paths else inner.quoted }
+{
+    if folder.quoted {
+        return inner.paths;
+    }
+    inner.quoted
 }
 
 /// What rows sum up to behind the name of a folder, and a slash.
@@ -132,14 +154,9 @@ pub(crate) fn behind(folder: Spelling, inner: Tally) -> Tally
     ensures { (weigh : DirectoryEntry → Weighed) (name : List ℕ) (rows : List Row) → IsSpelling name folder
         → Tallies weigh rows inner → Tallies weigh (map (row_behind (name ++ 47 ∷ [])) rows) result }
 {
-    let quoted = if folder.quoted {
-        inner.paths
-    } else {
-        inner.quoted
-    };
     Tally {
         paths: inner.paths,
-        quoted,
+        quoted: quoted_behind(folder, inner),
         bytes: inner.bytes,
         spelled: plus(times(inner.paths, plus(folder.bytes, 1)), inner.spelled),
     }
