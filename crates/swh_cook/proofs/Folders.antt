@@ -10,7 +10,7 @@ use Rattle.swh_carried.specs.declared.fault.CookFault.TheVariants.{NotHeld, Unca
 use Rattle.swh_fastcook.specs.Cook.{LeadsHead}
 use Rattle.swh_dircook.specs.Cook.{IsFolderOf, MakesFolder, MakesFrontOfFolder, IsCarriedFolder, IsUncarriedFolder, ExplainsNoFolder}
 use Rattle.swh_dircook.specs.Made.{Made, Yarded}
-use Rattle.swh_cook.specs.Cook.{AreMadeOf, AreMade, IsCarriedOf, IsCarried, IsUncarriedOf, IsUncarried, MakesFront, IsCooked, IsBrokenOff, ExplainsUncooked}
+use Rattle.swh_cook.specs.Cook.{AreMadeOf, AreMade, IsCarriedOf, IsCarried, IsUncarriedOf, IsUncarried, IsCooked, IsBrokenOff, ExplainsUncooked}
 
 module _ (bodies : Bodies) (children_of : Name → Option (List Name)) (root : Name) (kind : root.kind ≡ Directory) where
   pub carried_folder : IsCarriedFolder bodies children_of root → IsCarried bodies children_of root
