@@ -27,6 +27,12 @@ module _ {S : Type 0} where
     IsLeft None _ = Unit {0}
 
   module _ (faults : S → ℕ) where
+    -- The count of faults of the source is as it was.
+    abbrev pub IsQuietIn : Option (MutBor S) → Left S → Type 0
+    IsQuietIn (Some source) (inr (inl left)) = faults left.0.now ≡ faults source.now
+    IsQuietIn (Some source) _ = ⊥
+    IsQuietIn None _ = Unit {0}
+
     -- The count of faults of the source rose.
     abbrev pub RoseIn : Option (MutBor S) → Left S → Type 0
     RoseIn (Some source) (inr (inl left)) = Rose (faults source.now) (faults left.0.now)

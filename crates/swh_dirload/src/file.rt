@@ -2,6 +2,7 @@
 ghost use Rattle.std.specs.Prelude.{◌≡◌, ◌≤◌, IfOk, IfErr, IsErrOf, Some, length};
 ghost use Rattle.swh_base.specs.Limits.{body_limit};
 ghost use Rattle.swh_outside.specs.Faults.{Rose};
+ghost use Rattle.swh_fastlex.specs.ReadOn.{IsQuietBut};
 ghost use Rattle.swh_outside.specs.Folder.{bytes_at};
 ghost use Rattle.swh_dirload.specs.declared.fault.DirFault.TheVariants.{ReadFault as NotRead};
 ghost use Rattle.swh_dirload.specs.Files.{MayRefuseFile, ExplainsFile};
@@ -28,6 +29,7 @@ pub fn read_file<F: Folder>(alloc: Global, folder: &mut F, path: &str) -> Result
     ensures same { F.tells → F.holds folder.new ≡ F.holds folder.old }
     ensures same_path { F.opened_at folder.new ≡ F.opened_at folder.old }
     ensures later { F.faults folder.old ≤ F.faults folder.new }
+    ensures quiet { IsQuietBut (F.faults folder.old) (F.faults folder.new) NotRead result }
     ensures cause { IsErrOf result NotRead → Rose (F.faults folder.old) (F.faults folder.new) }
 {
     let mut source = folder.read(path)?;

@@ -1,6 +1,7 @@
 //! The directory of a folder, named.
 ghost use Rattle.std.specs.Prelude.{◌≡◌, ◌≤◌, [], IfOk, IfErr, IsErrOf};
 ghost use Rattle.swh_outside.specs.Faults.{Rose};
+ghost use Rattle.swh_fastlex.specs.ReadOn.{IsQuietBut};
 ghost use Rattle.swh_dirload.specs.declared.fault.DirFault.TheVariants.{ReadFault as NotRead};
 ghost use Rattle.swh_dirload.specs.May.{MayRefusePlain};
 ghost use Rattle.swh_dirload.specs.Meaning.{ExplainsFolder};
@@ -34,6 +35,7 @@ pub fn name_folder<N: Namer, F: Folder>(
     ensures same { F.tells → F.holds folder.new ≡ F.holds folder.old }
     ensures same_path { F.opened_at folder.new ≡ F.opened_at folder.old }
     ensures later { F.faults folder.old ≤ F.faults folder.new }
+    ensures quiet { IsQuietBut (F.faults folder.old) (F.faults folder.new) NotRead result }
     ensures cause { IsErrOf result NotRead → Rose (F.faults folder.old) (F.faults folder.new) }
 {
     let mut given = Given::new(alloc);

@@ -3,6 +3,7 @@ ghost use Rattle.std.specs.Prelude.{◌≡◌, ◌≤◌, ◌⊎◌, [], List, �
 ghost use Rattle.std.specs.List.{AllByRecursion};
 ghost use Rattle.swh_base.specs.declared.name.Name.{Name};
 ghost use Rattle.swh_outside.specs.Faults.{Rose};
+ghost use Rattle.swh_fastlex.specs.ReadOn.{IsQuietBut};
 ghost use Rattle.swh_made.specs.Giving.{AreNew};
 ghost use Rattle.swh_made.specs.Making.{made, names_of_made};
 ghost use Rattle.swh_made.specs.Whole.{HasAllThatIsReached};
@@ -15,7 +16,7 @@ ghost use Rattle.swh_dirload.specs.Lines.{AreTaken, ExplainsLines, GoesOn};
 ghost use Rattle.swh_dirload.specs.Loading.{HasTable, ExplainsLength, IsLongAfter, MakesAll};
 ghost use Rattle.swh_dirload.specs.May.{MayRefuse, MayRefusePlain};
 ghost use Rattle.swh_dirload.specs.Meaning.{MeansFolder, ExplainsFolder};
-ghost use Rattle.swh_dirload.specs.Modes.{Tells, text_of, IsLeft, RoseIn};
+ghost use Rattle.swh_dirload.specs.Modes.{Tells, text_of, IsLeft, IsQuietIn, RoseIn};
 
 use crate::fault::DirFault;
 use crate::listing::take_lines;
@@ -54,6 +55,7 @@ pub fn read_folder<N: Namer, F: Folder>(
     ensures same { F.tells → F.holds folder.new ≡ F.holds folder.old }
     ensures same_path { F.opened_at folder.new ≡ F.opened_at folder.old }
     ensures later { F.faults folder.old ≤ F.faults folder.new }
+    ensures quiet { IsQuietBut (F.faults folder.old) (F.faults folder.new) NotRead result }
     ensures cause { IsErrOf result NotRead → Rose (F.faults folder.old) (F.faults folder.new) }
 {
     let found = walk(alloc, folder)?;
@@ -104,6 +106,7 @@ fn take_listing<S: Source>(
 
     ensures same_path { S.path source.new ≡ S.path source.old }
     ensures later { S.faults source.old ≤ S.faults source.new }
+    ensures quiet { IsQuietBut (S.faults source.old) (S.faults source.new) NotRead result }
     ensures cause { IsErrOf result NotRead → Rose (S.faults source.old) (S.faults source.new) }
 {
     let mut numbers = index_of(alloc, spots.as_slice())?;
@@ -151,6 +154,7 @@ fn load_plain<N: Namer, F: Folder>(
     ensures same { F.tells → F.holds folder.new ≡ F.holds folder.old }
     ensures same_path { F.opened_at folder.new ≡ F.opened_at folder.old }
     ensures later { F.faults folder.old ≤ F.faults folder.new }
+    ensures quiet { IsQuietBut (F.faults folder.old) (F.faults folder.new) NotRead result }
     ensures cause { IsErrOf result NotRead → Rose (F.faults folder.old) (F.faults folder.new) }
 {
     let mut given = Given::new(alloc);
@@ -176,8 +180,10 @@ fn load_listed<N: Namer, F: Folder, S: Source>(
     ensures same { F.tells → F.holds folder.new ≡ F.holds folder.old }
     ensures same_path { F.opened_at folder.new ≡ F.opened_at folder.old }
     ensures later { F.faults folder.old ≤ F.faults folder.new }
+    ensures quiet { IsQuietBut (F.faults folder.old) (F.faults folder.new) NotRead result }
     ensures same_source { S.path source.new ≡ S.path source.old }
     ensures later_source { S.faults source.old ≤ S.faults source.new }
+    ensures quiet_source { IsQuietBut (S.faults source.old) (S.faults source.new) NotRead result }
     ensures cause { IsErrOf result NotRead → Rose (F.faults folder.old) (F.faults folder.new)
         ⊎ Rose (S.faults source.old) (S.faults source.new) }
 {
@@ -219,7 +225,9 @@ pub fn load_folder<N: Namer, F: Folder, S: Source>(
     ensures same { F.tells → F.holds folder.new ≡ F.holds folder.old }
     ensures same_path { F.opened_at folder.new ≡ F.opened_at folder.old }
     ensures later { F.faults folder.old ≤ F.faults folder.new }
+    ensures quiet { IsQuietBut (F.faults folder.old) (F.faults folder.new) NotRead result }
     ensures listing { IsLeft S.path S.faults modes.entry modes.exit }
+    ensures quiet_listing { (IsErrOf result NotRead → ⊥) → IsQuietIn S.faults modes.entry modes.exit }
     ensures cause { IsErrOf result NotRead → Rose (F.faults folder.old) (F.faults folder.new)
         ⊎ RoseIn S.faults modes.entry modes.exit }
 {

@@ -5,6 +5,7 @@ ghost use Rattle.swh_made.specs.Making.{made, names_of_made};
 ghost use Rattle.swh_dirmade.specs.Giving.{Keeps};
 ghost use Rattle.swh_dirmade.specs.Making.{IsHeld};
 ghost use Rattle.swh_outside.specs.Faults.{Rose};
+ghost use Rattle.swh_fastlex.specs.ReadOn.{IsQuietBut};
 ghost use Rattle.swh_outside.specs.declared.folder.What.TheVariants.{File as AFile, Other as NeitherKind};
 ghost use Rattle.swh_dirload.specs.declared.fault.DirFault.TheVariants.{ReadFault as NotRead};
 ghost use Rattle.swh_dirload.specs.May.{MayRefusePlain};
@@ -45,6 +46,7 @@ fn read_content<N: Namer, F: Folder>(
     ensures same { F.tells → F.holds folder.new ≡ F.holds folder.old }
     ensures same_path { F.opened_at folder.new ≡ F.opened_at folder.old }
     ensures later { F.faults folder.old ≤ F.faults folder.new }
+    ensures quiet { IsQuietBut (F.faults folder.old) (F.faults folder.new) NotRead result }
     ensures cause { IsErrOf result NotRead → Rose (F.faults folder.old) (F.faults folder.new) }
 {
     let bytes = read_file(alloc, folder, path)?;
@@ -83,6 +85,7 @@ fn read_item<N: Namer, F: Folder>(
     ensures same { F.tells → F.holds folder.new ≡ F.holds folder.old }
     ensures same_path { F.opened_at folder.new ≡ F.opened_at folder.old }
     ensures later { F.faults folder.old ≤ F.faults folder.new }
+    ensures quiet { IsQuietBut (F.faults folder.old) (F.faults folder.new) NotRead result }
     ensures cause { IsErrOf result NotRead → Rose (F.faults folder.old) (F.faults folder.new) }
 {
     match what {
@@ -118,6 +121,7 @@ pub fn read_files<N: Namer, F: Folder>(
     ensures same { F.tells → F.holds folder.new ≡ F.holds folder.old }
     ensures same_path { F.opened_at folder.new ≡ F.opened_at folder.old }
     ensures later { F.faults folder.old ≤ F.faults folder.new }
+    ensures quiet { IsQuietBut (F.faults folder.old) (F.faults folder.new) NotRead result }
     ensures cause { IsErrOf result NotRead → Rose (F.faults folder.old) (F.faults folder.new) }
 {
     let mut places = Vec::new(alloc);

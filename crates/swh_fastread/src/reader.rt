@@ -1,6 +1,7 @@
 //! The reader of a stream's commands.
 ghost use Rattle.std.specs.Prelude.{◌≡◌, ◌≤◌, ◌⊎◌, ◌+◌, [], false, length, IfOk, IfErr, IfSome, IsErrOf, ◌<◌, ◌^◌};
 ghost use Rattle.swh_outside.specs.Faults.{Rose};
+ghost use Rattle.swh_fastlex.specs.ReadOn.{IsQuietBut};
 ghost use Rattle.swh_fastrows.specs.ReadOn.{AreReadOn};
 ghost use Rattle.swh_fastgrammar.specs.Givable.{IsGivable};
 ghost use Rattle.swh_fastrows.specs.declared.fail.ReadFail.TheVariants.{ReadFault as SourceFailed};
@@ -107,7 +108,7 @@ impl<S: Source> Reader<S> {
 
         ensures same_path { self.new.place.path ≡ self.old.place.path }
         ensures later { self.old.place.faults ≤ self.new.place.faults }
-        ensures quiet { IfOk result (λ _. self.new.place.faults ≡ self.old.place.faults) }
+        ensures quiet { IsQuietBut self.old.place.faults self.new.place.faults SourceFailed result }
         ensures cause { IsErrOf result SourceFailed → (self.old.ending ≡ IsRefused SourceFailed)
             ⊎ Rose self.old.place.faults self.new.place.faults }
     {

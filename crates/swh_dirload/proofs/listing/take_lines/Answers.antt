@@ -53,7 +53,7 @@ lines-preserved g c =
       held = λ names h. done.held names (inv.held names h);
       onward = then_on c.args.spots.now.items c.lines.spots.items c.take_line.new.spots.items c.args.places.now.items c.lines.places.items c.take_line.new.places.items inv.onward done.goes;
       same_path = next.on.same_path ∙ inv.same_path;
-      quiet = next.on.quiet ∙ inv.quiet;
+      quiet = next.on.quiet (λ h. cc) ∙ inv.quiet;
     }
 
 pub returns-in-No-clause-err : goal.returns-in-No-clause-err

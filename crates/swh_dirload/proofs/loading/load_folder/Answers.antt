@@ -5,3 +5,6 @@ returns-in-Some-clause-listing g c = rw c.in-Some.is (c.load_listed.ensures.same
 
 pub returns-in-Some-clause-cause : goal.returns-in-Some-clause-cause
 returns-in-Some-clause-cause g c = rw c.in-Some.is c.load_listed.ensures.cause
+
+pub returns-in-Some-clause-quiet_listing : goal.returns-in-Some-clause-quiet_listing
+returns-in-Some-clause-quiet_listing g c = rw c.in-Some.is c.load_listed.ensures.quiet_source

@@ -54,8 +54,6 @@ files-preserved g c =
     let named : path ≡ path_in (paths_of (take k found)) (get_or found k item) = search rules in
     let read = c.in_ok-place.ensures in
     let new = c.read_item.new.given in
-    let before = inv.later in
-    let after = read.later in
     let count = inv.count in
     let pushed = c.in_ok-push.ensures.items in
     record {
@@ -69,5 +67,5 @@ files-preserved g c =
           subst (λ (ps : List Place). ReadsAll id tree 0 c.args.given.now (items_of (take (k + 1) found)) ps c.in_ok-place.now new) (sym c.in_ok-push.ensures.items)
           (reads_more id tree c.args.given.now found k item c.files.places.items c.files.total c.in_ok-place.now c.files.given path c.in_ok-place.place new lt named (inv.reads tells) step read.within);
       same_path = read.same_path ∙ inv.same_path;
-      later = omega (arith, before, after);
+      quiet = read.quiet (λ h. cc) ∙ inv.quiet;
     }

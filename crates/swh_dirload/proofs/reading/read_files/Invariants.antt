@@ -15,5 +15,5 @@ invariant-files g l = record {
   same : g.F.Folder.tells → g.F.Folder.holds l.folder ≡ g.F.Folder.holds l.fn.folder;
   reads : g.F.Folder.tells → ReadsAll g.N.Namer.id_of (g.F.Folder.holds l.fn.folder) 0 l.fn.given (items_of (take l.number l.found)) l.places.items l.total l.given;
   same_path : g.F.Folder.opened_at l.folder ≡ g.F.Folder.opened_at l.fn.folder;
-  later : g.F.Folder.faults l.fn.folder ≤ g.F.Folder.faults l.folder;
+  quiet : g.F.Folder.faults l.folder ≡ g.F.Folder.faults l.fn.folder;
 }

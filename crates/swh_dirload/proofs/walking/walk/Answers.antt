@@ -32,7 +32,7 @@ items-preserved g c =
           let visits : Visits tree (path_in (paths_of found) next) next.what (items_under (paths_of found) left) later = subst (λ t. Visits t (path_in (paths_of found) next) next.what (items_under (paths_of found) left) later) (inv.same tells) (c.in_ok-visit-2.ensures.visits tells) in
           subst (λ (fs : List Found). Takes tree (root ∷ []) (items_of fs) later) (sym pushed) (takes_found tree found next left later waits visits);
       same_path = c.in_ok-visit-2.ensures.on.same_path ∙ inv.same_path;
-      quiet = c.in_ok-visit-2.ensures.on.quiet ∙ inv.quiet;
+      quiet = c.in_ok-visit-2.ensures.on.quiet (λ h. cc) ∙ inv.quiet;
     }
 
 pub returns-in_err-visit-2-clause-err : goal.returns-in_err-visit-2-clause-err

@@ -31,7 +31,7 @@ changes-preserved g c = record {
   none = λ e. absurd (not_both c.changes.more c.changes-test.true (c.changes.invariant.none e).0);
   same_path = c.next_line.ensures.on.same_path ∙ c.next_change.ensures.on.same_path ∙ c.changes.invariant.same_path;
   onward = let on = rw c.in-Some.is at c.in_ok-change.ensures.onward in omega (arith, on, c.next_line.ensures.onward, c.changes.invariant.onward);
-  quiet = c.in_ok-more.ensures.on.quiet ∙ c.in_ok-change.ensures.on.quiet ∙ c.changes.invariant.quiet;
+  quiet = c.in_ok-more.ensures.on.quiet (λ h. cc) ∙ c.in_ok-change.ensures.on.quiet (λ h. cc) ∙ c.changes.invariant.quiet;
 }
 
 pub returns-clause-changes : goal.returns-clause-changes

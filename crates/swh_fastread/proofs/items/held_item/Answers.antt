@@ -62,7 +62,7 @@ pub returns-in-No-clause-on : goal.returns-in-No-clause-on
 returns-in-No-clause-on g c = record {
   same_path = refl;
   later = omega arith;
-  quiet = tt;
+  quiet = λ _. refl;
   cause = λ e. absurd (no_read_fault c.line-in-No.result.now c.at.result (sym c.refused_line.ensures ∙ same_fail c.refused_line.result SourceFailed _ refl e));
 }
 

@@ -24,7 +24,7 @@ items-preserved-in-Promise g c = record {
   passed = λ told. passed_promise c.args.rows.now c.items.rows c.read_item.new.rows c.args.promised c.items.wants_done (c.items.invariant.passed told) (rw c.in-Promise.is at (c.in_ok-command.ensures.item told));
   same_path = c.read_item.ensures.on.same_path ∙ c.items.invariant.same_path;
   onward = let on = rw c.in-Promise.is at c.in_ok-command.ensures.onward in omega (arith, on.0, c.items.invariant.onward);
-  quiet = c.in_ok-command.ensures.on.quiet ∙ c.items.invariant.quiet;
+  quiet = c.in_ok-command.ensures.on.quiet (λ h. cc) ∙ c.items.invariant.quiet;
 }
 
 pub items-smaller : goal.items-smaller
@@ -35,7 +35,7 @@ items-preserved g c = record {
   passed = λ told. passed_silent c.args.rows.now c.items.rows c.read_item.new.rows c.args.promised c.items.wants_done (c.items.invariant.passed told) (rw c.in-Nothing.is at (c.in_ok-command.ensures.item told));
   same_path = c.read_item.ensures.on.same_path ∙ c.items.invariant.same_path;
   onward = let on = rw c.in-Nothing.is at c.in_ok-command.ensures.onward in omega (arith, on.0, c.items.invariant.onward);
-  quiet = c.in_ok-command.ensures.on.quiet ∙ c.items.invariant.quiet;
+  quiet = c.in_ok-command.ensures.on.quiet (λ h. cc) ∙ c.items.invariant.quiet;
 }
 
 pub returns-in-Command-clause-onward : goal.returns-in-Command-clause-onward

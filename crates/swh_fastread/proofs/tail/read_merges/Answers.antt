@@ -27,7 +27,7 @@ merges-preserved g c = record {
   none = λ e. absurd (not_both c.merges.more c.merges-test.true (c.merges.invariant.none e).0);
   same_path = c.next_line.ensures.on.same_path ∙ ap (λ (p : Place). p.path) c.take.ensures ∙ c.merges.invariant.same_path;
   onward = omega (arith, c.next_line.ensures.onward, ap (λ (p : Place). p.at) c.take.ensures, c.merges.invariant.onward);
-  quiet = c.in_ok-more.ensures.on.quiet ∙ ap (λ (p : Place). p.faults) c.take.ensures ∙ c.merges.invariant.quiet;
+  quiet = c.in_ok-more.ensures.on.quiet (λ h. cc) ∙ ap (λ (p : Place). p.faults) c.take.ensures ∙ c.merges.invariant.quiet;
 }
 
 pub returns-clause-merges : goal.returns-clause-merges
