@@ -11,6 +11,7 @@ use Rattle.swh_dirfmt.specs.declared.fault.DirWhy.{DirWhy}
 use Rattle.swh_dirfmt.proofs.Exact as directory
 use Rattle.swh_snpfmt.specs.Fault.{IsSnpFault}
 use Rattle.swh_snpfmt.proofs.Exact as snapshot
+use Rattle.swh_graph.specs.Named.{IsDirectoryHeld}
 use Rattle.swh_graph.proofs.Lists.{same_some}
 
 module _ (bodies : Bodies) (children_of : Name → Option (List Name)) (graph : IsGraphOf bodies children_of) (name : Name) (body : List ℕ) (held : body_of bodies name ≡ Some body) where
@@ -25,6 +26,9 @@ module _ (bodies : Bodies) (children_of : Name → Option (List Name)) (graph : 
 
   pub no_bad_directory : name.kind ≡ Directory → (at : ℕ) (why : DirWhy) → IsDirFault body at why → ⊥
   no_bad_directory is at why fault = let w = of_kind Directory is in directory.no_fault body w.1.entries at why w.1.directory fault
+
+  pub directory_held : name.kind ≡ Directory → IsDirectoryHeld bodies name body
+  directory_held is = let w = of_kind Directory is in record { held = held; entries = w.1.entries; is = w.1.directory }
 
   pub no_bad_snapshot : name.kind ≡ Snapshot → (at : ℕ) → IsSnpFault body at → ⊥
   no_bad_snapshot is at fault = let w = of_kind Snapshot is in snapshot.no_fault body w.1.branches at w.1.is fault

@@ -14,7 +14,7 @@ use Rattle.swh_model.specs.Archive.{Bodies, body_of, IsHeld}
 use Rattle.swh_graph.specs.Answer.{Refuses}
 use Rattle.swh_graph.specs.Holding.{IsNotHeld}
 use Rattle.swh_graph.specs.Log.{HasParents, HaveParents, ComesNext, AreNext, IsLogFront, IsLog, IsLogGap, IsLogAnswer}
-use Rattle.swh_graph.specs.Met.{MeetsOne, MeetsAll, MeetsParents}
+use Rattle.swh_graph.specs.Met.{MeetsOne, MeetsAll}
 use Rattle.swh_graph.specs.declared.fault.GraphFault.{GraphFault}
 use Rattle.swh_graph.specs.declared.fault.GraphFault.TheVariants.{NotHeld, NoPath, Memory}
 use Rattle.swh_graph.proofs.Lists.{none_in, in_first, in_rest, in_cases, in_middle}
@@ -205,13 +205,13 @@ module _ (bodies : Bodies) (id : List ℕ) where
   abbrev root : Name
   root = revision_name id
 
-  pub logged_none : (names : List Name) → MeetsOne [] root names → IsLogged bodies root 0 names
-  logged_none names one = record {
+  pub logged_none : (names : List Name) → MeetsAll [] (root ∷ []) names → IsLogged bodies root 0 names
+  logged_none names meets = record {
     within = omega arith;
     front = record { order = tt; held = tt };
     parents = [];
     have = refl;
-    meets = (names, (one, refl));
+    meets = meets;
   }
 
   module _ (count : ℕ) (names : List Name) (l : IsLogged bodies root count names) where
@@ -248,24 +248,24 @@ module _ (bodies : Bodies) (id : List ℕ) where
       more_names : take (count + 1) names ≡ take count names ++ name ∷ []
       more_names = take_more names count name less ∙ ap (λ (n : Name). take count names ++ n ∷ []) (sym is)
 
-      front_kept : (new : List Name) → MeetsParents bodies name names new → take (count + 1) new ≡ take count names ++ name ∷ []
-      front_kept new m =
-          let e = all_extends names m.parents new m.meets in
+      front_kept : (kin new : List Name) → MeetsAll names kin new → take (count + 1) new ≡ take count names ++ name ∷ []
+      front_kept kin new meets =
+          let e = all_extends names kin new meets in
           ap (λ (ns : List Name). take (count + 1) ns) e.is ∙ take-append-le (count + 1) names e.more (omega (arith, less)) ∙ more_names
 
-      pub logged_more : (new : List Name) → MeetsParents bodies name names new → IsLogged bodies root (count + 1) new
-      logged_more new m =
-          let e = all_extends names m.parents new m.meets in
-          let back = sym (front_kept new m) in
+      pub logged_more : (kin new : List Name) → HasParents bodies name kin → MeetsAll names kin new → IsLogged bodies root (count + 1) new
+      logged_more kin new has meets =
+          let e = all_extends names kin new meets in
+          let back = sym (front_kept kin new meets) in
           record {
             within = let long = ap length e.is in omega (arith, less, long, length-append names e.more);
             front = record {
               order = subst (λ (ns : List Name). AreNext bodies root [] ns) back (next_push bodies root (take count names) [] name l.front.order comes_next);
-              held = subst (λ (ns : List Name). AllByRecursion (IsHeld bodies) ns) back (all-push (IsHeld bodies) (take count names) name l.front.held (m.has.holds.body, m.has.holds.held));
+              held = subst (λ (ns : List Name). AllByRecursion (IsHeld bodies) ns) back (all-push (IsHeld bodies) (take count names) name l.front.held (has.holds.body, has.holds.held));
             };
-            parents = l.parents ++ m.parents;
-            have = subst (λ (ns : List Name). HaveParents bodies ns (l.parents ++ m.parents)) back (have_push bodies (take count names) l.parents name m.parents l.have m.has);
-            meets = meets_both [] (root ∷ l.parents) names m.parents new l.meets m.meets;
+            parents = l.parents ++ kin;
+            have = subst (λ (ns : List Name). HaveParents bodies ns (l.parents ++ kin)) back (have_push bodies (take count names) l.parents name kin l.have has);
+            meets = meets_both [] (root ∷ l.parents) names kin new l.meets meets;
           }
 
     -- the next name that is met is not held

@@ -32,7 +32,7 @@ use Rattle.swh_graph.proofs.Logs.{all_extends, extends_in, one_in, one_from, met
 abbrev AreOnce : List Name → Type 0
 AreOnce names = IsDistinct (eq_by_cmp name_cmp) names
 
-is_same : (n m : Name) → eq_by_cmp name_cmp n m ≡ true → n ≡ m
+pub is_same : (n m : Name) → eq_by_cmp name_cmp n m ≡ true → n ≡ m
 is_same n m t = name_cmp-IsAntisymmetric n m ((Equal-is (name_cmp n m)).0 t)
 
 not_any : (names : List Name) (n : Name) → (Contains names n → ⊥) → list_any (eq_by_cmp name_cmp n) names ≡ false

@@ -1,5 +1,6 @@
 pub mod Answer
 pub mod Holding
+pub mod Named
 pub mod Log
 pub mod Met
 pub mod Path

@@ -5,7 +5,7 @@ ghost use Rattle.swh_base.specs.Revision.{revision_name};
 ghost use Rattle.swh_graph.specs.Answer.{Found, Refuses};
 ghost use Rattle.swh_graph.specs.Holding.{IsNotHeld};
 ghost use Rattle.swh_graph.specs.Log.{IsLogAnswer};
-ghost use Rattle.swh_graph.specs.Met.{MeetsAll, MeetsParents};
+ghost use Rattle.swh_graph.specs.Met.{MeetsUpTo, MeetsParents};
 
 use crate::fault::GraphFault;
 use crate::met::Met;
@@ -21,35 +21,39 @@ fn revision_name(id: [u8; 20]) -> Name
     Name { kind, id }
 }
 
-/// Meets the revisions of these ids.
-fn meet_ids(met: &mut Met, ids: &[[u8; 20]]) -> Result<(), Memory>
-    ensures { OnOk result (MeetsAll met.old (map revision_name ids.now) met.new) }
+/// Meets the revisions of these ids, until so many names are met: what stands behind these no log of this limit lists.
+fn meet_ids(met: &mut Met, ids: &[[u8; 20]], limit: usize) -> Result<(), Memory>
+    ensures { OnOk result (MeetsUpTo limit met.old (map revision_name ids.now) met.new) }
 {
     for id in ids {
+        if met.len() >= limit {
+            return Ok(());
+        }
         met.meet(revision_name(*id))?;
     }
     Ok(())
 }
 
-/// Meets the parents of the revision of this name.
+/// Meets the parents of the revision of this name, until so many names are met.
 fn meet_parents<L: Look>(
     alloc: Global,
     look: &L,
     met: &mut Met,
     name: Name,
+    limit: usize,
 ) -> Result<(), GraphFault>
     requires { name.kind ≡ Revision }
-    ensures ok { OnOk result (MeetsParents (L.archive look.now).bodies name met.old met.new) }
+    ensures ok { OnOk result (MeetsParents (L.archive look.now).bodies name limit met.old met.new) }
     ensures err { IfErr result (IsNotHeld (L.archive look.now).bodies name) }
 {
     let rev = revision_at(alloc, look, name)?;
-    meet_ids(met, rev.parents.as_slice())?;
+    meet_ids(met, rev.parents.as_slice(), limit)?;
     Ok(())
 }
 
 /// The revision, its parents in their order, their parents in the order of these, and so on: each name once, and at most
-/// so many. Fails with the first of them that is not held, or where memory runs out. Its time is n log n in the revisions
-/// that are listed and their parents, and linear in the bodies of these.
+/// so many. Fails with the first of them that is not held, or where memory runs out. It keeps no more names than it lists,
+/// and beside them the parts of one revision; its time is n log n in the names, and linear in the bodies of these.
 pub fn log<L: Look>(
     alloc: Global,
     look: &L,
@@ -60,13 +64,14 @@ pub fn log<L: Look>(
         IsLogAnswer (L.archive look.now).bodies (revision_name rev) limit (Found names.items)) }
     ensures err { IfErr result (Refuses (IsLogAnswer (L.archive look.now).bodies (revision_name rev) limit)) }
 {
+    let most = limit as usize;
     let mut met = Met::new(alloc);
-    met.meet(revision_name(rev))?;
-    for place in 0..limit as usize {
+    meet_ids(&mut met, &[rev], most)?;
+    for place in 0..most {
         let Some(name) = met.at(place) else {
             return Ok(met.into_front(place));
         };
-        meet_parents(alloc, look, &mut met, name)?;
+        meet_parents(alloc, look, &mut met, name, most)?;
     }
-    Ok(met.into_front(limit as usize))
+    Ok(met.into_front(most))
 }

@@ -10,6 +10,7 @@ mod head;
 mod history;
 mod laws;
 mod met;
+mod named;
 mod paths;
 mod reaching;
 mod reading;

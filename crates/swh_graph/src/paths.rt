@@ -1,13 +1,13 @@
 //! The entry at a path.
-ghost use Rattle.std.specs.Prelude.{◌≡◌, ◌≢◌, IfOk, IfErr, IfSome, IfNone, Contains};
-ghost use Rattle.swh_base.specs.Directory.{DirectoryEntry};
-ghost use Rattle.swh_dirfmt.specs.Entries.{entry_of, entries_in_body, entry_view};
+ghost use Rattle.std.specs.Prelude.{◌≡◌, IfOk, IfErr};
+ghost use Rattle.swh_dirfmt.specs.Entries.{entry_of, entry_view};
 ghost use Rattle.swh_graph.specs.Answer.{Found, Refuses};
 ghost use Rattle.swh_graph.specs.Path.{directory_name, target_of, HasEntry, IsPathAnswer};
 ghost use Rattle.swh_graph.specs.Way.{StepFails, Arrives};
 
 use crate::fault::GraphFault;
-use crate::reading::directory_at;
+use crate::named::find_entry;
+use crate::reading::directory_body;
 use std::alloc::Global;
 use swh_base::{Bytes, Kind, Memory, Name};
 use swh_dirfmt::{DirEntry, SpelledEntry};
@@ -36,24 +36,8 @@ pub fn target_of(entry: &SpelledEntry<'_>) -> Name
     }
 }
 
-/// The entry of a name.
-fn find<'a>(entries: &[SpelledEntry<'a>], component: &[u8]) -> Option<SpelledEntry<'a>>
-    ensures some { IfSome result (λ entry. Contains (entries_in_body entries.now) (entry_of entry)
-        × (entry.name.now ≡ component.now)) }
-    ensures none { IfNone result ((entry : DirectoryEntry) → Contains (entries_in_body entries.now) entry
-        → entry.name ≢ component.now) }
-{
-    for entry in entries {
-        if entry.name == component {
-            return Some(*entry);
-        }
-    }
-    None
-}
-
 /// The entry to which the component of this number leads from a place.
 fn entry_in<'a, L: Look>(
-    alloc: Global,
     look: &'a L,
     place: Name,
     component: &[u8],
@@ -65,21 +49,16 @@ fn entry_in<'a, L: Look>(
     if place.kind != Kind::Directory {
         return Err(GraphFault::NoPath { component: number });
     }
-    let entries = directory_at(alloc, look, place)?;
-    match find(entries.as_slice(), component) {
+    let body = directory_body(look, place)?;
+    match find_entry(body, component) {
         Some(entry) => Ok(entry),
         None => Err(GraphFault::NoPath { component: number }),
     }
 }
 
 /// The entry to which a path leads from a place, and the number of its last component. Each directory on the path is read
-/// once.
-pub fn follow<'a, L: Look>(
-    alloc: Global,
-    look: &'a L,
-    root: Name,
-    path: &[u8],
-) -> Result<Arrival<'a>, GraphFault>
+/// once, up to the entry; no list of its entries is made.
+pub fn follow<'a, L: Look>(look: &'a L, root: Name, path: &[u8]) -> Result<Arrival<'a>, GraphFault>
     ensures ok { IfOk result (λ arrival.
         Arrives (L.archive look.now).bodies root path.now (entry_of arrival.entry) arrival.number) }
     ensures err { IfErr result (Refuses (IsPathAnswer (L.archive look.now).bodies root path.now)) }
@@ -89,12 +68,12 @@ pub fn follow<'a, L: Look>(
     let mut number: u64 = 0;
     let mut rest = path;
     'components: while let Some((component, behind)) = split_at_byte(rest, b'/') {
-        let entry = entry_in(alloc, look, place, component, number)?;
+        let entry = entry_in(look, place, component, number)?;
         place = target_of(&entry);
         number += 1;
         rest = behind;
     }
-    let entry = entry_in(alloc, look, place, rest, number)?;
+    let entry = entry_in(look, place, rest, number)?;
     Ok(Arrival { entry, number })
 }
 
@@ -124,7 +103,7 @@ pub fn at_path<L: Look>(
     ensures err { IfErr result (Refuses (IsPathAnswer (L.archive look.now).bodies (directory_name dir) path.now)) }
 {
     let kind = Kind::Directory;
-    let arrival = follow(alloc, look, Name { kind, id: dir }, path)?;
+    let arrival = follow(look, Name { kind, id: dir }, path)?;
     let entry = owned(alloc, &arrival.entry)?;
     Ok(entry)
 }

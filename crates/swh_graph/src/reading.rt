@@ -5,6 +5,7 @@ ghost use Rattle.swh_dirfmt.specs.Entries.{entries_in_body};
 ghost use Rattle.swh_revfmt.specs.Reading.{revision_spelled, release_spelled};
 ghost use Rattle.swh_snpfmt.specs.Branches.{branches_in_body};
 ghost use Rattle.swh_graph.specs.Holding.{HoldsDirectory, HoldsRevision, HoldsRelease, HoldsSnapshot, IsNotHeld};
+ghost use Rattle.swh_graph.specs.Named.{IsDirectoryHeld};
 
 use crate::fault::GraphFault;
 use std::alloc::Global;
@@ -33,6 +34,19 @@ pub fn directory_at<L: Look>(
         Ok(entries) => Ok(entries),
         Err(ReadDirFault::Memory) => Err(GraphFault::Memory),
         Err(ReadDirFault::Bad(_)) => unreachable!(),
+    }
+}
+
+/// The body of the directory of this name.
+pub fn directory_body<L: Look>(look: &L, name: Name) -> Result<&[u8], GraphFault>
+    requires { name.kind ≡ Directory }
+    ensures ok { IfOk result (λ body. IsDirectoryHeld (L.archive look.now).bodies name body.now) }
+    ensures err { IfErr result (IsNotHeld (L.archive look.now).bodies name) }
+{
+    look.is_graph();
+    match look.body(&name) {
+        Some(body) => Ok(body.as_slice()),
+        None => Err(GraphFault::NotHeld { name }),
     }
 }
 

@@ -55,7 +55,7 @@ fn behind_slash(path: &[u8]) -> &[u8]
 }
 
 /// Where a SWHID's path leads from a root, and by how many components.
-fn end_of<L: Look>(alloc: Global, look: &L, root: Name, path: &[u8]) -> Result<End, GraphFault>
+fn end_of<L: Look>(look: &L, root: Name, path: &[u8]) -> Result<End, GraphFault>
     ensures ok { IfOk result (λ end. Ends (L.archive look.now).bodies root path.now end.name end.number) }
     ensures err { IfErr result (EndFails (L.archive look.now).bodies root path.now) }
 {
@@ -64,7 +64,7 @@ fn end_of<L: Look>(alloc: Global, look: &L, root: Name, path: &[u8]) -> Result<E
         let number = 0;
         return Ok(End { name: root, number });
     }
-    let arrival = follow(alloc, look, root, below)?;
+    let arrival = follow(look, root, below)?;
     let name = target_of(&arrival.entry);
     let number = arrival.number + 1;
     Ok(End { name, number })
@@ -92,7 +92,7 @@ fn arrive<L: Look>(
         let component = 0;
         return Err(GraphFault::NoPath { component });
     };
-    let end = end_of(alloc, look, root, path)?;
+    let end = end_of(look, root, path)?;
     if is_same(&end.name, &core) {
         Ok(core)
     } else {

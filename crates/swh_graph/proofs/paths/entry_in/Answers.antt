@@ -1,14 +1,24 @@
-use Rattle.std.proofs.Common.{List, refl, subst}
-use Rattle.std.specs.Prelude.{Contains, ◌≢◌}
-use Rattle.swh_base.specs.Directory.{DirectoryEntry}
-use Rattle.swh_dirfmt.specs.declared.entry.SpelledEntry.{SpelledEntry}
-use Rattle.swh_dirfmt.specs.Entries.{entries_in_body}
+use Rattle.std.proofs.Common.{rules, refl}
+use Rattle.swh_graph.specs.Holding.{HoldsDirectory}
 use Rattle.swh_graph.proofs.Ways.{nowhere_in}
 use Rattle.swh_graph.proofs.paths.entry_in.Goals as goal
 
-pub returns-clause-err : goal.returns-clause-err
-returns-clause-err g c = (
-  refl,
-  nowhere_in (g.L.Look.archive c.args.look.now).bodies c.args.place c.args.component.now (entries_in_body c.in_ok-entries.entries.items) c.in_ok-entries.ensures.ok
-      (subst (λ (es : List SpelledEntry). (entry : DirectoryEntry) → Contains (entries_in_body es) entry → entry.name ≢ c.args.component.now) c.as_slice.ensures.value c.in-None.ensures.none),
-)
+pub returns-in-Some-clause-ok : goal.returns-in-Some-clause-ok
+returns-in-Some-clause-ok g c =
+    let held = c.in_ok-body.ensures.ok in
+    let found = c.in-Some.ensures.some held.entries held.is in
+    record {
+      folder = search rules;
+      entries = held.entries;
+      holds = record { body = c.in_ok-body.body.now; held = held.held; is = held.is };
+      there = found.0;
+      named = found.1;
+    }
+
+pub returns-in-None-clause-err : goal.returns-in-None-clause-err
+returns-in-None-clause-err g c =
+    let held = c.in_ok-body.ensures.ok in
+    let holds : HoldsDirectory (g.L.Look.archive c.args.look.now).bodies c.args.place held.entries = record { body = c.in_ok-body.body.now; held = held.held; is = held.is } in (
+      refl,
+      nowhere_in (g.L.Look.archive c.args.look.now).bodies c.args.place c.args.component.now held.entries holds (c.in-None.ensures.none held.entries held.is),
+    )
