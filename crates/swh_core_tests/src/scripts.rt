@@ -13,11 +13,11 @@ use swh_core::{Held, Step, Told, World};
 use swh_naive_core::{Said, said_of, said_of_told};
 
 /// A step, and what is told of it.
-type Row = (Doing<'static>, Said);
+pub type Row = (Doing<'static>, Said);
 
-const ORIGIN: &str = "https://e.org/p";
+pub const ORIGIN: &str = "https://e.org/p";
 
-const OPEN: Wished = Wished::Open(ORIGIN);
+pub const OPEN: Wished = Wished::Open(ORIGIN);
 
 const ONGOING: Wished = Wished::Mark(ORIGIN, 1, Mark::Ongoing);
 
@@ -179,7 +179,7 @@ fn tell<N: Namer>(alloc: Global, namer: N, world: &mut World<N>, doing: Doing) -
 }
 
 /// Says whether what is told of each step, from an empty archive on, is what its row says.
-fn are_said<N: Namer>(alloc: Global, namer: N, rows: &[Row]) -> Result<bool, Fail> {
+pub fn are_said<N: Namer>(alloc: Global, namer: N, rows: &[Row]) -> Result<bool, Fail> {
     let mut world = World::new(alloc, namer, ACTORS)?;
     for row in rows {
         if tell(alloc, namer, &mut world, row.0)? != row.1 {
@@ -248,5 +248,13 @@ fn runs_of_all_steps(rt: HostRuntime) -> Result<(), Fail> {
     for (k, rows) in SCRIPTS.iter().enumerate() {
         assert!(rt; is_run_said(rt.alloc(), Sha1Namer, rows)?, "script {k}");
     }
+    Ok(())
+}
+
+// Nothing of a run depends on how many steps it has.
+#[test]
+fn a_run_of_2000_steps(rt: HostRuntime) -> Result<(), Fail> {
+    let looks = vec![in rt.alloc(); (Doing::Look(1), Said::Front(0)); 2_000]?;
+    assert!(rt; is_run_said(rt.alloc(), Sha1Namer, &looks)?);
     Ok(())
 }

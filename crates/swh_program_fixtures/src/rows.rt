@@ -1,7 +1,7 @@
 // The rows of a table, one after another.
 use crate::plain::PlainDepot;
-use crate::setting::Case;
-use crate::world::{is_met, is_met_by};
+use crate::setting::{Case, Spelled};
+use crate::world::{is_met, is_met_by, is_spelled_by};
 use std::alloc::Global;
 use std::test::Fail;
 use swh_base::{ByteNamer, Sha1Namer};
@@ -31,6 +31,16 @@ pub fn all_met_in_sums(alloc: Global, cases: &[Case<'_>]) -> Result<(), Fail> {
     for case in cases {
         if !is_met_by(alloc, ByteNamer, PlainDepot::new(alloc, None), case)? {
             return Err(Fail::new(case.name));
+        }
+    }
+    Ok(())
+}
+
+/// Fails with the name of the first row that is not met, of such as are spelled, over such files.
+pub fn all_met_spelled(alloc: Global, rows: &[Spelled<'_>]) -> Result<(), Fail> {
+    for row in rows {
+        if !is_spelled_by(alloc, Sha1Namer, PlainDepot::new(alloc, None), row)? {
+            return Err(Fail::new(row.case.name));
         }
     }
     Ok(())

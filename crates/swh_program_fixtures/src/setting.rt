@@ -72,3 +72,15 @@ pub struct Case<'a> {
     /// The ledger and the store then, where they are compared.
     pub leaves: Option<(&'a [u8], &'a [u8])>,
 }
+
+/// A row that is too long to be written out: the runs of its case, and behind them a run of words that are spelled, if there
+/// are any; the last of them stands so many times. Then the status of that run, and pieces that spell all that is printed, in
+/// place of what the case says.
+#[derive(Clone, Copy)]
+pub struct Spelled<'a> {
+    pub case: Case<'a>,
+    pub words: &'a [&'a [Piece<'a>]],
+    pub times: usize,
+    pub status: u8,
+    pub printed: &'a [Piece<'a>],
+}

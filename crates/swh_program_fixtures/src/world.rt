@@ -2,7 +2,7 @@
 // to prove.
 use crate::folders::folder_input;
 use crate::pieces::{Piece, spelled};
-use crate::setting::{Case, Setting};
+use crate::setting::{Case, Setting, Spelled};
 use crate::yards::{Grown, has_grown};
 use std::alloc::{AllocError, Global};
 use swh_base::{Namer, Sha1Namer};
@@ -29,6 +29,9 @@ const ROOM: Room = Room {
     bytes: 2_097_152,
     calls: 4_096,
 };
+
+/// How many bytes runs may print.
+const SINK_ROOM: usize = 2_097_152;
 
 fn failing(alloc: Global, number: Option<u64>) -> Result<Vec<u64>, AllocError> {
     match number {
@@ -129,7 +132,7 @@ fn empty_parts(alloc: Global, setting: &Setting<'_>) -> Result<Parts, AllocError
         input_folders: Vec::new(alloc),
         inputs_failing: failing(alloc, setting.origins_fail)?,
         yard: MemoryYard::with_room(alloc, 65_536, failing(alloc, setting.yard_fails)?)?,
-        sink: MemorySink::new(alloc, 65_536, failing(alloc, setting.sink_fails)?)?,
+        sink: MemorySink::new(alloc, SINK_ROOM, failing(alloc, setting.sink_fails)?)?,
         clock_failing: failing(alloc, setting.clock_fails)?,
     })
 }
@@ -200,6 +203,20 @@ fn run_once<N: Namer, P: Depot>(
     Ok(run(&(), alloc, &words, world))
 }
 
+// Says whether the runs of a row have its statuses.
+fn have_statuses<N: Namer, P: Depot>(
+    alloc: Global,
+    world: &mut World<N, P>,
+    case: &Case<'_>,
+) -> Result<bool, AllocError> {
+    for (words, status) in case.runs.iter().zip(case.statuses) {
+        if run_once(alloc, world, words)? != *status {
+            return Ok(false);
+        }
+    }
+    Ok(case.runs.len() == case.statuses.len())
+}
+
 // Says whether the runs of a row have its statuses, and print this.
 fn end_so<N: Namer, P: Depot>(
     alloc: Global,
@@ -207,12 +224,8 @@ fn end_so<N: Namer, P: Depot>(
     case: &Case<'_>,
     printed: &[u8],
 ) -> Result<bool, AllocError> {
-    for (words, status) in case.runs.iter().zip(case.statuses) {
-        if run_once(alloc, world, words)? != *status {
-            return Ok(false);
-        }
-    }
-    Ok(case.runs.len() == case.statuses.len() && world.sink.bytes() == printed)
+    let have = have_statuses(alloc, world, case)?;
+    Ok(have && world.sink.bytes() == printed)
 }
 
 /// Says whether the runs of a row end as it says, with this namer and these files.
@@ -226,6 +239,71 @@ pub fn is_met_by<N: Namer + Drop, P: Depot + Drop>(
     fill_parts(alloc, &mut parts, &case.setting)?;
     let mut world = world_of(alloc, namer, depot, parts);
     end_so(alloc, &mut world, case, case.printed)
+}
+
+// The word that pieces spell.
+fn spelled_word(alloc: Global, pieces: &[Piece<'_>]) -> Result<String, AllocError> {
+    let bytes = spelled(alloc, pieces)?;
+    String::from_str(alloc, str::from_utf8(&bytes).unwrap_or(""))
+}
+
+// Adds a word that pieces spell, so many times.
+fn push_times(
+    alloc: Global,
+    words: &mut Vec<String>,
+    pieces: &[Piece<'_>],
+    times: usize,
+) -> Result<(), AllocError> {
+    for _ in 0..times {
+        words.push(spelled_word(alloc, pieces)?)?;
+    }
+    Ok(())
+}
+
+// The words of a row, the last of them so many times.
+fn spelled_words(alloc: Global, row: &Spelled<'_>) -> Result<Vec<String>, AllocError> {
+    let mut words = Vec::new(alloc);
+    if let Some((last, first)) = row.words.split_last() {
+        for pieces in first {
+            push_times(alloc, &mut words, pieces, 1)?;
+        }
+        push_times(alloc, &mut words, last, row.times)?;
+    }
+    Ok(words)
+}
+
+// Says whether the runs of a row that is spelled end as it says, with these words and this printed.
+fn spelled_end_so<N: Namer, P: Depot>(
+    alloc: Global,
+    world: &mut World<N, P>,
+    row: &Spelled<'_>,
+    words: &[String],
+    printed: &[u8],
+) -> Result<bool, AllocError> {
+    if !have_statuses(alloc, world, &row.case)? {
+        return Ok(false);
+    }
+    if !words.is_empty() {
+        if run(&(), alloc, words, world) != row.status {
+            return Ok(false);
+        }
+    }
+    Ok(world.sink.bytes() == printed)
+}
+
+/// Says whether the runs of a row that is spelled end as it says, with this namer and these files.
+pub fn is_spelled_by<N: Namer + Drop, P: Depot + Drop>(
+    alloc: Global,
+    namer: N,
+    depot: P,
+    row: &Spelled<'_>,
+) -> Result<bool, AllocError> {
+    let printed = spelled(alloc, row.printed)?;
+    let words = spelled_words(alloc, row)?;
+    let mut parts = empty_parts(alloc, &row.case.setting)?;
+    fill_parts(alloc, &mut parts, &row.case.setting)?;
+    let mut world = world_of(alloc, namer, depot, parts);
+    spelled_end_so(alloc, &mut world, row, &words, &printed)
 }
 
 // The depot of a setting, in which nothing stands yet.

@@ -101,8 +101,8 @@ fn each_limit_of_a_word(rt: HostRuntime) -> Result<(), Fail> {
     all_end_so(rt.alloc(), LIMITS)
 }
 
-// With the worked stream's branch there are 65,536 refs; and there are more objects than a batch has.
-const NUMBERS: &[Case<'static>] = &[
+// With the worked stream's branch there are 65,536 refs.
+const REFS: &[Case<'static>] = &[
     Case {
         name: "65,536 refs",
         setting: Setting {
@@ -141,6 +141,15 @@ const NUMBERS: &[Case<'static>] = &[
         printed: b"made\nhttps://e.org/p\t1\tfailed\tlimit refs\n",
         leaves: None,
     },
+];
+
+#[test]
+fn numbers_of_refs(rt: HostRuntime) -> Result<(), Fail> {
+    all_met_plainly(rt.alloc(), REFS)
+}
+
+// More objects than a batch has.
+const OBJECTS: &[Case<'static>] = &[
     Case {
         name: "5,001 contents",
         setting: Setting {
@@ -180,11 +189,12 @@ const NUMBERS: &[Case<'static>] = &[
 ];
 
 #[test]
-fn numbers_of_refs_and_objects(rt: HostRuntime) -> Result<(), Fail> {
-    all_met_plainly(rt.alloc(), NUMBERS)
+fn numbers_of_objects(rt: HostRuntime) -> Result<(), Fail> {
+    all_met_plainly(rt.alloc(), OBJECTS)
 }
 
-// A body has 67,108,864 bytes at most. Of a content all of them are in the stream, counted or in lines up to a word.
+// A body has 67,108,864 bytes at most. Of a content all of them are in the stream. A table of such bodies has two rows, so that
+// a test takes few seconds.
 const CONTENTS: &[Case<'static>] = &[
     Case {
         name: "a content of counted bytes",
@@ -214,6 +224,15 @@ const CONTENTS: &[Case<'static>] = &[
         printed: b"made\nhttps://e.org/p\t1\tfailed\tlimit body\n",
         leaves: None,
     },
+];
+
+#[test]
+fn contents_up_to_the_limit(rt: HostRuntime) -> Result<(), Fail> {
+    all_met_plainly(rt.alloc(), CONTENTS)
+}
+
+// The same in lines up to a word.
+const LINES: &[Case<'static>] = &[
     Case {
         name: "a content of lines",
         setting: Setting {
@@ -257,12 +276,12 @@ const CONTENTS: &[Case<'static>] = &[
 ];
 
 #[test]
-fn contents_up_to_the_limit(rt: HostRuntime) -> Result<(), Fail> {
-    all_met_plainly(rt.alloc(), CONTENTS)
+fn contents_of_lines_up_to_the_limit(rt: HostRuntime) -> Result<(), Fail> {
+    all_met_plainly(rt.alloc(), LINES)
 }
 
-// Of a revision 122 bytes stand before the message, of the release 103.
-const MESSAGES: &[Case<'static>] = &[
+// 122 bytes stand before the message.
+const REVISIONS: &[Case<'static>] = &[
     Case {
         name: "a revision",
         setting: Setting {
@@ -295,6 +314,15 @@ const MESSAGES: &[Case<'static>] = &[
         printed: b"made\nhttps://e.org/p\t1\tfailed\tlimit body\n",
         leaves: None,
     },
+];
+
+#[test]
+fn revisions_up_to_the_limit(rt: HostRuntime) -> Result<(), Fail> {
+    all_met_plainly(rt.alloc(), REVISIONS)
+}
+
+// 103 bytes stand before the message.
+const RELEASES: &[Case<'static>] = &[
     Case {
         name: "a release",
         setting: Setting {
@@ -332,12 +360,12 @@ const MESSAGES: &[Case<'static>] = &[
 ];
 
 #[test]
-fn messages_up_to_the_limit(rt: HostRuntime) -> Result<(), Fail> {
-    all_met_plainly(rt.alloc(), MESSAGES)
+fn releases_up_to_the_limit(rt: HostRuntime) -> Result<(), Fail> {
+    all_met_plainly(rt.alloc(), RELEASES)
 }
 
-// 1,024 entries of 65,536 bytes, and 65,536 branches of 1,024; the worked stream's own branch is taken away.
-const LISTS: &[Case<'static>] = &[
+// 1,024 entries of 65,536 bytes.
+const DIRECTORIES: &[Case<'static>] = &[
     Case {
         name: "a directory",
         setting: Setting {
@@ -377,6 +405,15 @@ const LISTS: &[Case<'static>] = &[
         printed: b"made\nhttps://e.org/p\t1\tfailed\tlimit body\n",
         leaves: None,
     },
+];
+
+#[test]
+fn directories_up_to_the_limit(rt: HostRuntime) -> Result<(), Fail> {
+    all_met_plainly(rt.alloc(), DIRECTORIES)
+}
+
+// 65,536 branches of 1,024 bytes; the worked stream's own branch is taken away.
+const SNAPSHOTS: &[Case<'static>] = &[
     Case {
         name: "a snapshot",
         setting: Setting {
@@ -423,6 +460,6 @@ const LISTS: &[Case<'static>] = &[
 ];
 
 #[test]
-fn lists_up_to_the_limit(rt: HostRuntime) -> Result<(), Fail> {
-    all_met_plainly(rt.alloc(), LISTS)
+fn snapshots_up_to_the_limit(rt: HostRuntime) -> Result<(), Fail> {
+    all_met_plainly(rt.alloc(), SNAPSHOTS)
 }

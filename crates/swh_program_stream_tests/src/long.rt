@@ -1,16 +1,16 @@
-// Inputs of as many bytes as one may have, 4,294,967,296, and of one more. Each is read by a process of its own, and the ids
-// are sums, since SHA-1 of so many bytes takes long.
-use crate::repeated::{LongFile, LongOrigins};
+// Files without an end in sight, which are read no further than one byte above what a body may have, and folders of many files.
+// Inputs of as many bytes as one may have, and of one more, are loaded by `bench/limits.py`. The ids are those of another SHA-1.
+use crate::repeated::{LongFile, LongFolder, LongOrigins};
 use std::alloc::{AllocError, Global};
 use std::test::Fail;
-use swh_base::ByteNamer;
+use swh_base::Sha1Namer;
 use swh_memory::{MemoryClock, MemoryDoors, MemorySink, MemoryYard};
 use swh_outside::OpenGate;
 use swh_program::{Outside, run};
-use swh_program_fixtures::{INIT, LOAD, Piece, PlainDepot};
+use swh_program_fixtures::{CHECK, INIT, LOAD, Piece, PlainDepot};
 
 type World<'a> = Outside<
-    ByteNamer,
+    Sha1Namer,
     PlainDepot,
     LongOrigins<'a>,
     MemoryYard,
@@ -20,12 +20,24 @@ type World<'a> = Outside<
     OpenGate,
 >;
 
-fn world_of<'a>(alloc: Global, files: &'a [LongFile<'a>]) -> Result<World<'a>, AllocError> {
+fn world_of<'a>(
+    alloc: Global,
+    files: &'a [LongFile<'a>],
+    folders: &'a [LongFolder<'a>],
+) -> Result<World<'a>, AllocError> {
     Ok(Outside {
-        namer: ByteNamer,
+        namer: Sha1Namer,
         depot: PlainDepot::new(alloc, None),
-        desk: LongOrigins { alloc, files },
-        origins: LongOrigins { alloc, files },
+        desk: LongOrigins {
+            alloc,
+            files,
+            folders,
+        },
+        origins: LongOrigins {
+            alloc,
+            files,
+            folders,
+        },
         yard: MemoryYard::with_room(alloc, 0, Vec::new(alloc))?,
         sink: MemorySink::new(alloc, 1_024, Vec::new(alloc))?,
         clock: MemoryClock::new(1_000_000_000, Vec::new(alloc)),
@@ -42,123 +54,83 @@ fn runs<'a>(alloc: Global, world: &mut World<'a>, words: &[&str]) -> Result<u8, 
     Ok(run(&(), alloc, &owned, world))
 }
 
-// Says whether an archive is made, and the jobs of the file `J` print this with this status.
-fn ends_so(
-    alloc: Global,
-    files: &[LongFile<'_>],
-    status: u8,
-    printed: &[u8],
-) -> Result<bool, AllocError> {
-    let mut world = world_of(alloc, files)?;
-    let made = runs(alloc, &mut world, INIT)?;
-    let loaded = runs(alloc, &mut world, LOAD)?;
-    Ok(made == 0 && loaded == status && world.sink.bytes() == printed)
+// Files and folders, runs over them, the statuses of these, and all that they print.
+#[derive(Clone, Copy)]
+struct Long<'a> {
+    files: &'a [LongFile<'a>],
+    folders: &'a [LongFolder<'a>],
+    runs: &'a [&'a [&'a str]],
+    statuses: &'a [u8],
+    printed: &'a [u8],
 }
 
-fn is_so(so: bool) -> Result<(), Fail> {
-    if so { Ok(()) } else { Err(Fail::new(0)) }
+fn ends_so(alloc: Global, row: &Long<'_>) -> Result<bool, AllocError> {
+    let mut world = world_of(alloc, row.files, row.folders)?;
+    for (words, status) in row.runs.iter().zip(row.statuses) {
+        if runs(alloc, &mut world, words)? != *status {
+            return Ok(false);
+        }
+    }
+    Ok(row.runs.len() == row.statuses.len() && world.sink.bytes() == row.printed)
 }
 
-const FULL: &[u8] = b"made\nu\t1\tfull\tswh:1:snp:0000000000000000000000000000000000000000\n";
+// A folder `d`, in which each file has a tebibyte.
+const ENDLESS: LongFolder<'static> = LongFolder {
+    path: "d",
+    count: 1,
+    text: &[Piece::Fill(1_048_576)],
+    times: 1_048_576,
+};
 
-const LIMIT: &[u8] = b"made\nu\t1\tfailed\tlimit stream\n";
-
-/// A file without bytes.
-const EMPTY: LongFile<'static> = LongFile {
-    path: "r",
+const DIRECTORY_JOB: LongFile<'static> = LongFile {
+    path: "J",
     text: &[],
     times: 0,
-    end: &[],
+    end: &[Piece::Text(b"dir\tu\td\n")],
 };
 
-const STREAM_JOB: LongFile<'static> = LongFile {
-    path: "J",
-    end: &[Piece::Text(b"fast\tu\te\n")],
-    ..EMPTY
-};
-
-const BATCH_JOB: LongFile<'static> = LongFile {
-    path: "J",
-    end: &[Piece::Text(b"batch\tu\tb\tr\n")],
-    ..EMPTY
-};
-
-/// Comments of 1,048,576 bytes.
-const STREAM: LongFile<'static> = LongFile {
-    path: "e",
-    text: &[
-        Piece::Text(b"#"),
-        Piece::Fill(1_048_574),
-        Piece::Text(b"\n"),
-    ],
-    times: 4_096,
-    end: &[],
-};
-
-/// Blobs of 1,048,576 bytes with their headers and the LF behind each.
-const BATCH: LongFile<'static> = LongFile {
-    path: "b",
-    text: &[
-        Piece::Text(b"0000000000000000000000000000000000000038 blob 1048521\n"),
-        Piece::Fill(1_048_521),
-        Piece::Text(b"\n"),
-    ],
-    times: 4_096,
-    end: &[],
-};
-
-/// Lines of 1,048,576 bytes of what a tag leads to.
-const REFS: LongFile<'static> = LongFile {
-    path: "r",
-    text: &[
-        Piece::Text(b"295c0651a95ba32ac5e14f92da0161b122942cac "),
-        Piece::Fill(1_048_531),
-        Piece::Text(b"^{}\n"),
-    ],
-    times: 4_096,
-    end: &[],
-};
+const ROWS: &[Long<'static>] = &[
+    Long {
+        files: &[LongFile {
+            path: "f",
+            text: &[Piece::Fill(1_048_576)],
+            times: 1_048_576,
+            end: &[],
+        }],
+        folders: &[],
+        runs: &[&["identify", "cnt", "f"]],
+        statuses: &[1],
+        printed: b"swharc: limit body\n",
+    },
+    Long {
+        files: &[DIRECTORY_JOB],
+        folders: &[ENDLESS],
+        runs: &[&["identify", "dir", "d"], INIT, LOAD],
+        statuses: &[1, 0, 1],
+        printed: b"swharc: limit body\nmade\nu\t1\tfailed\tlimit body\n",
+    },
+    // 70,000 empty files.
+    Long {
+        files: &[DIRECTORY_JOB],
+        folders: &[LongFolder {
+            path: "d",
+            count: 70_000,
+            text: &[],
+            times: 0,
+        }],
+        runs: &[&["identify", "dir", "d"], INIT, LOAD, CHECK],
+        statuses: &[0; 4],
+        printed: b"swh:1:dir:cfe8a0c691acef2deef7c1bf2624e8376b0315da\nmade\n\
+u\t1\tfull\tswh:1:snp:dc9d12bf23185b419e1798e9fecc37e6a0191260\nobjects 3 closed 3 visits 1\n",
+    },
+];
 
 #[test]
-fn the_longest_stream(rt: HostRuntime) -> Result<(), Fail> {
-    is_so(ends_so(rt.alloc(), &[STREAM_JOB, STREAM], 0, FULL)?)
-}
-
-#[test]
-fn a_longer_stream(rt: HostRuntime) -> Result<(), Fail> {
-    let longer = LongFile {
-        end: &[Piece::Text(b"\n")],
-        ..STREAM
-    };
-    is_so(ends_so(rt.alloc(), &[STREAM_JOB, longer], 1, LIMIT)?)
-}
-
-#[test]
-fn the_longest_batch(rt: HostRuntime) -> Result<(), Fail> {
-    is_so(ends_so(rt.alloc(), &[BATCH_JOB, BATCH, EMPTY], 0, FULL)?)
-}
-
-#[test]
-fn a_longer_batch(rt: HostRuntime) -> Result<(), Fail> {
-    let longer = LongFile {
-        end: &[Piece::Text(b"x\n")],
-        ..BATCH
-    };
-    is_so(ends_so(rt.alloc(), &[BATCH_JOB, longer, EMPTY], 1, LIMIT)?)
-}
-
-const NO_OBJECT: LongFile<'static> = LongFile { path: "b", ..EMPTY };
-
-#[test]
-fn the_longest_refs(rt: HostRuntime) -> Result<(), Fail> {
-    is_so(ends_so(rt.alloc(), &[BATCH_JOB, NO_OBJECT, REFS], 0, FULL)?)
-}
-
-#[test]
-fn longer_refs(rt: HostRuntime) -> Result<(), Fail> {
-    let longer = LongFile {
-        end: &[Piece::Text(b"\n")],
-        ..REFS
-    };
-    is_so(ends_so(rt.alloc(), &[BATCH_JOB, NO_OBJECT, longer], 1, LIMIT)?)
+fn files_without_an_end_and_many_files(rt: HostRuntime) -> Result<(), Fail> {
+    for (number, row) in ROWS.iter().enumerate() {
+        if !ends_so(rt.alloc(), row)? {
+            return Err(Fail::new(number));
+        }
+    }
+    Ok(())
 }

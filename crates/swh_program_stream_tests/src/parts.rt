@@ -167,51 +167,55 @@ fn each_limit_of_a_part(rt: HostRuntime) -> Result<(), Fail> {
     all_met_plainly(rt.alloc(), LIMITS)
 }
 
-// A body has 67,108,864 bytes at most: of a file in a folder, and of a snapshot, of which each of 64 branches takes 32 bytes and
-// its name, and so the last one.
-const BODIES: &[Case<'static>] = &[
-    Case {
-        name: "files of a folder",
-        setting: Setting {
-            jobs: Some(&[Piece::Text(b"dir\tu1\td\ndir\tu2\tf\n")]),
-            folders: &[
-                (
-                    "d",
-                    &[("", List(&[("f", File)])), ("f", Fill(67_108_864))],
-                    None,
-                ),
-                (
-                    "f",
-                    &[("", List(&[("f", File)])), ("f", Fill(67_108_865))],
-                    None,
-                ),
-            ],
-            ..BARE
-        },
-        runs: &[INIT, LOAD, CHECK],
-        statuses: &[0, 1, 0],
-        printed: b"made\nu1\t1\tfull\tswh:1:snp:ee60458e269fef3b139c02776315c7274eeefbc4\nu2\t1\tfailed\tlimit body\n\
+// A body has 67,108,864 bytes at most.
+const FILES: &[Case<'static>] = &[Case {
+    name: "files of a folder",
+    setting: Setting {
+        jobs: Some(&[Piece::Text(b"dir\tu1\td\ndir\tu2\tf\n")]),
+        folders: &[
+            (
+                "d",
+                &[("", List(&[("f", File)])), ("f", Fill(67_108_864))],
+                None,
+            ),
+            (
+                "f",
+                &[("", List(&[("f", File)])), ("f", Fill(67_108_865))],
+                None,
+            ),
+        ],
+        ..BARE
+    },
+    runs: &[INIT, LOAD, CHECK],
+    statuses: &[0, 1, 0],
+    printed: b"made\nu1\t1\tfull\tswh:1:snp:ee60458e269fef3b139c02776315c7274eeefbc4\nu2\t1\tfailed\tlimit body\n\
 objects 3 closed 3 visits 2\n",
-        leaves: None,
+    leaves: None,
+}];
+
+#[test]
+fn files_up_to_the_limit(rt: HostRuntime) -> Result<(), Fail> {
+    all_met_plainly(rt.alloc(), FILES)
+}
+
+// Each of the snapshot's 64 branches takes 32 bytes and its name, and so the last one.
+const REFS: &[Case<'static>] = &[Case {
+    name: "a snapshot of refs",
+    setting: Setting {
+        jobs: Some(&[Piece::Text(b"batch\tu1\tb\tmost\nbatch\tu2\tb\tmore\n")]),
+        files: &[
+            ("b", BLOB, None),
+            ("most", &[GREAT_REFS, REF, Piece::Fill(608), LF], None),
+            ("more", &[GREAT_REFS, REF, Piece::Fill(609), LF], None),
+        ],
+        ..BARE
     },
-    Case {
-        name: "a snapshot of refs",
-        setting: Setting {
-            jobs: Some(&[Piece::Text(b"batch\tu1\tb\tmost\nbatch\tu2\tb\tmore\n")]),
-            files: &[
-                ("b", BLOB, None),
-                ("most", &[GREAT_REFS, REF, Piece::Fill(608), LF], None),
-                ("more", &[GREAT_REFS, REF, Piece::Fill(609), LF], None),
-            ],
-            ..BARE
-        },
-        runs: &[INIT, LOAD, CHECK],
-        statuses: &[0, 1, 0],
-        printed: b"made\nu1\t1\tfull\tswh:1:snp:2d360a3ea5a3e5fe55d2dee37523657802af5a1e\nu2\t1\tfailed\tlimit body\n\
+    runs: &[INIT, LOAD, CHECK],
+    statuses: &[0, 1, 0],
+    printed: b"made\nu1\t1\tfull\tswh:1:snp:2d360a3ea5a3e5fe55d2dee37523657802af5a1e\nu2\t1\tfailed\tlimit body\n\
 objects 2 closed 2 visits 2\n",
-        leaves: None,
-    },
-];
+    leaves: None,
+}];
 
 const REF: Piece<'static> = Piece::Text(b"83baae61804e65cc73a7201a7252750c76066a30 ");
 
@@ -226,6 +230,6 @@ const GREAT_REFS: Piece<'static> = Piece::Rows {
 };
 
 #[test]
-fn bodies_up_to_the_limit(rt: HostRuntime) -> Result<(), Fail> {
-    all_met_plainly(rt.alloc(), BODIES)
+fn refs_up_to_the_limit(rt: HostRuntime) -> Result<(), Fail> {
+    all_met_plainly(rt.alloc(), REFS)
 }
