@@ -108,7 +108,9 @@ impl<S: Source> Reader<S> {
 
         ensures same_path { self.new.place.path ≡ self.old.place.path }
         ensures later { self.old.place.faults ≤ self.new.place.faults }
-        ensures quiet { IsQuietBut self.old.place.faults self.new.place.faults SourceFailed result }
+        ensures quiet { IfOk result (λ _. self.new.place.faults ≡ self.old.place.faults) }
+        // Nor was a failure heard with any other answer than that the source failed.
+        ensures heard { IsQuietBut self.old.place.faults self.new.place.faults SourceFailed result }
         ensures cause { IsErrOf result SourceFailed → (self.old.ending ≡ IsRefused SourceFailed)
             ⊎ Rose self.old.place.faults self.new.place.faults }
     {

@@ -1,9 +1,9 @@
 // The last lines of listings of as many bytes as one may have, 4,294,967,296, and of one more. What is before them is given
-// out unread.
+// out unread, and is never written.
 use std::alloc::{AllocError, Global};
 use std::test::Fail;
 use swh_base::Which;
-use swh_fastlex::{WINDOW, Window};
+use swh_fastlex::Window;
 use swh_listing::{LISTING_LIMIT, ListingFault, Mode, next_listed};
 use swh_outside::{Failed, Source};
 use swh_repeated_input::RepeatedSource;
@@ -40,8 +40,40 @@ const ROWS: &[Row] = &[
     ),
 ];
 
+/// A source of so many bytes, whichever stand in the buffer, and then of a text.
+#[derive(Drop)]
+struct LateSource {
+    before: u64,
+    text: RepeatedSource,
+}
+
+impl Source for LateSource {
+    ghost use Rattle.std.specs.Prelude.{[], false};
+
+    ghost tells = { ⊥ };
+
+    ghost left = { λ _. [] };
+
+    ghost given = { λ _. [] };
+
+    ghost ended = { λ _. false };
+
+    ghost faults = { λ _. 0 };
+
+    ghost path = { λ _. [] };
+
+    fn get(&mut self, out: &mut [u8]) -> Result<usize, Failed> {
+        if self.before == 0 {
+            return self.text.get(out);
+        }
+        let count = self.before.min(out.len() as u64);
+        self.before -= count;
+        Ok(count as usize)
+    }
+}
+
 /// Gives out what is before a place, a window at a time; says whether it came there.
-fn goes_to(window: &mut Window, source: &mut RepeatedSource, place: u64) -> Result<bool, Failed> {
+fn goes_to(window: &mut Window, source: &mut LateSource, place: u64) -> Result<bool, Failed> {
     for _turn in 0..70_000 {
         if window.place() >= place {
             return Ok(window.place() == place);
@@ -54,20 +86,17 @@ fn goes_to(window: &mut Window, source: &mut RepeatedSource, place: u64) -> Resu
     Ok(false)
 }
 
-/// A source of letters up to this place, and then of a row's bytes.
+/// A source of bytes up to this place, and then of a row's bytes.
 fn source_to(
     alloc: Global,
-    place: u64,
+    before: u64,
     (_, text, letters, _): Row,
-) -> Result<RepeatedSource, AllocError> {
-    let window = WINDOW as u64;
-    let before = (place % window) as usize;
-    let mut rest = Vec::from_elem(alloc, b'b', before)?;
-    rest.extend_from_slice(text)?;
+) -> Result<LateSource, AllocError> {
+    let mut rest = Vec::from_slice(alloc, text)?;
     let mut letters = Vec::from_elem(alloc, b'a', letters)?;
     rest.append(&mut letters)?;
-    let whole = Vec::from_elem(alloc, b'b', WINDOW)?;
-    Ok(RepeatedSource::new(whole, place / window, rest))
+    let text = RepeatedSource::new(Vec::new(alloc), 0, rest);
+    Ok(LateSource { before, text })
 }
 
 /// Whether a row's line is read as it is to be, where it is the seventh.
