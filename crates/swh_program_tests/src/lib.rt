@@ -14,6 +14,8 @@ mod devices;
 #[cfg(test)]
 mod folders;
 #[cfg(test)]
+mod lengths;
+#[cfg(test)]
 mod many;
 #[cfg(test)]
 mod refusals;
