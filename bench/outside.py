@@ -75,11 +75,18 @@ def not_there(room):
 
 
 def not_a_folder(room):
-    """An input's path through a file leads nowhere; a job file's likewise."""
+    """An input's path through a file leads nowhere; a job file's likewise. A folder is no file there, and a file no folder."""
     room.archive("A")
     room.write("through", b"fast\thttps://e.org/q\tstream/x\n")
     room.expect(1, b"https://e.org/q\t1\tnot_found\t-\n", "load", "A", "through")
     room.expect(2, b"swharc: no job file\n", "load", "A", "stream/x")
+    room.expect(2, b"swharc: no job file\n", "load", "A", "A")
+    room.expect(1, b"swharc: not found\n", "identify", "cnt", "A")
+    room.expect(1, b"swharc: not found\n", "identify", "dir", "stream")
+    crossed = (b"fast", b"A"), (b"dir", b"stream"), (b"dir", b"A\tA"), (b"batch", b"A\tstream"), (b"batch", b"stream\tA")
+    for visit, (kind, paths) in enumerate(crossed, 2):
+        room.write("crossed", b"%s\thttps://e.org/q\t%s\n" % (kind, paths))
+        room.expect(1, b"https://e.org/q\t%d\tnot_found\t-\n" % visit, "load", "A", "crossed")
     room.expect(4, b"swharc: outside disk\n", "init", "stream")
 
 

@@ -1,5 +1,5 @@
 -- What a session holds, and what it does with more bytes.
-use Rattle.std.specs.Prelude.{◌≡◌, ℕ, ◌<◌, ◌≤◌, List, [], ◌∷◌, ◌++◌, length, take, drop, Option, Some, None}
+use Rattle.std.specs.Prelude.{◌≡◌, ℕ, ◌*◌, ◌<◌, ◌≤◌, List, [], ◌∷◌, ◌++◌, length, take, drop, Option, Some, None, vec_len, vec_capacity}
 use Rattle.swh_http.specs.declared.ask.Ask.{Ask}
 use Rattle.swh_http.specs.declared.ask.Ask.TheVariants.{Request as Asked, Refused}
 use Rattle.swh_http.specs.declared.place.Place.{Place}
@@ -24,11 +24,13 @@ pub record GoesAt (bytes : List ℕ) (place : Place) : Type 0 where
   pub goes : MayContinue place
   pub short : length bytes ≤ head_limit
 
--- A session in this state may take more bytes.
+-- A session in this state may take more bytes. Of a body it has room for no more than twice what has come, whatever its
+-- head declares.
 abbrev pub MayTakeMore : State → Type 0
 MayTakeMore (Head bytes place) = GoesAt bytes.items place
 MayTakeMore (Body head framed body) =
     Frames head.items framed × (length head.items ≤ head_limit) × (length body.items < framed.length)
+    × (vec_capacity body ≤ 2 * vec_len body)
 MayTakeMore Closed = Unit {0}
 
 -- what the bytes of a head and more bytes come to

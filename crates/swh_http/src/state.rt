@@ -1,5 +1,25 @@
 //! What waits for more bytes, and one turn of it.
-ghost use Rattle.std.specs.Prelude.{◌≡◌, ◌<◌, ◌≤◌, ◌++◌, ◌∷◌, [], length, Some, None, IfOk, MatchOption, List, ℕ, take};
+ghost use Rattle.std.specs.Prelude.{
+  ◌≡◌,
+  ◌+◌,
+  ◌*◌,
+  ◌<◌,
+  ◌≤◌,
+  ◌++◌,
+  ◌∷◌,
+  [],
+  length,
+  Some,
+  None,
+  OnOk,
+  IfOk,
+  MatchOption,
+  List,
+  ℕ,
+  take,
+  vec_len,
+  vec_capacity,
+};
 ghost use Rattle.swh_http.specs.Framed.{Frames, IsWholeHead};
 ghost use Rattle.swh_http.specs.Place.{place_of};
 ghost use Rattle.swh_http.specs.Turn.{GoesAt, MayTakeMore, IsHeadEnd, IsTurn, StaysClosed, held_of};
@@ -81,6 +101,44 @@ fn read_head(bytes: Vec<u8>, place: Place, rest: &[u8]) -> Result<HeadEnd, Memor
     Ok(HeadEnd::Waits { bytes: held, place })
 }
 
+// Takes room for bytes behind a body: where there is none, for as many again as the body has then.
+fn take_room(body: &mut Vec<u8>, count: usize) -> Result<(), Memory>
+    requires { vec_capacity body.old ≤ 2 * vec_len body.old }
+    ensures items { body.new.items ≡ body.old.items }
+    ensures same { vec_len body.new ≡ vec_len body.old }
+    ensures enough { OnOk result (vec_len body.new + count ≤ vec_capacity body.new) }
+    ensures room { OnOk result (vec_capacity body.new ≤ 2 * (vec_len body.new + count)) }
+{
+    let held = body.len();
+    if body.capacity().saturating_sub(held) < count {
+        body.reserve_exact(count.max(held))?;
+    }
+    Ok(())
+}
+
+// Puts bytes into the room behind a body.
+fn put_bytes(body: &mut Vec<u8>, more: &[u8])
+    requires { vec_len body.old + length more.now ≤ vec_capacity body.old }
+    ensures items { body.new.items ≡ body.old.items ++ more.now }
+    ensures longer { vec_len body.new ≡ vec_len body.old + length more.now }
+    ensures room { vec_capacity body.new ≡ vec_capacity body.old }
+{
+    for byte in more {
+        body.push_reserved(*byte);
+    }
+}
+
+// More bytes of a body, for which no more room is taken than for twice what has come: not for what the head declares.
+fn push_bytes(body: &mut Vec<u8>, more: &[u8]) -> Result<(), Memory>
+    requires { vec_capacity body.old ≤ 2 * vec_len body.old }
+    ensures items { OnOk result (body.new.items ≡ body.old.items ++ more.now) }
+    ensures room { OnOk result (vec_capacity body.new ≤ 2 * vec_len body.new) }
+{
+    take_room(body, more.len())?;
+    put_bytes(body, more);
+    Ok(())
+}
+
 fn body_turn(
     alloc: Global,
     head: Vec<u8>,
@@ -91,13 +149,14 @@ fn body_turn(
     requires frames { Frames head.items framed }
     requires short { length head.items ≤ head_limit }
     requires within { length body.items ≤ framed.length }
+    requires room { vec_capacity body ≤ 2 * vec_len body }
     ensures turn { IfOk result (IsTurn (head.items ++ body.items) rest.now) }
     ensures within { IfOk result (λ turn. turn.taken ≤ length rest.now) }
     ensures some { IfOk result (λ turn. length body.items < framed.length → 0 < length rest.now → 0 < turn.taken) }
 {
     let mut body = body;
     let taken = rest.len().min(framed.length - body.len());
-    body.extend_from_slice(&rest[..taken])?;
+    push_bytes(&mut body, &rest[..taken])?;
     if body.len() < framed.length {
         let state = State::Body { head, framed, body };
         return Ok(Turn {

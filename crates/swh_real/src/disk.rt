@@ -7,7 +7,9 @@ use std::io::ErrorKind;
 use std::marker::Model;
 use std::os::unix::fs::FileExt;
 use std::rt::Files;
-use swh_files::{Access, Count, Names, Place, check_size_limit, forget_cached, read_from};
+use swh_files::{
+    Access, Count, Names, Place, barrier_of, check_size_limit, forget_cached, read_from,
+};
 use swh_outside::{Disk, Failed};
 
 /// A file that is read and written at places. One that does not stand is empty, and is made at the first write. A
@@ -91,13 +93,9 @@ impl<R: Files<File = File> + Drop> RealDisk<R> {
 }
 
 // A barrier on a file, which another run may have written: on its bytes and its length, and not on its times, which no
-// run reads. For who only reads it may be one of a file system that takes no writes and knows no barrier: there is
-// nothing to bring to the disk.
+// run reads.
 fn sync_file(file: &File, access: Access) -> io::Result<()> {
-    match (file.sync_data(), access) {
-        (Err(fault), Access::Read) if fault.kind() == ErrorKind::InvalidInput => Ok(()),
-        (synced, _) => synced,
-    }
+    barrier_of(file.sync_data(), access)
 }
 
 impl<R: Files<File = File> + Drop + Send> Disk for RealDisk<R> {

@@ -1,5 +1,5 @@
 // Files and folders of the system as inputs.
-ghost use Rattle.std.specs.Prelude.{◌≡◌, ◌≢◌, ◌≤◌, List, ℕ};
+ghost use Rattle.std.specs.Prelude.{◌≡◌, ◌≢◌, ◌≤◌, ◌↔◌, ◌⊎◌, IsTrue, List, ℕ};
 
 use crate::{RealFolder, RealSource};
 use std::alloc::{AllocError, Global};
@@ -11,8 +11,8 @@ use std::{fs, io};
 use swh_files::Count;
 use swh_outside::{Opened, Origins, PathCounts};
 
-/// Inputs in the file system. What stands at a path and is no folder fails to open as one. A contract sees the count of
-/// faults and those of the paths.
+/// Inputs in the file system. Where a folder stands no input is found, and no folder where anything else does, whoever
+/// may read it. A contract sees the count of faults and those of the paths.
 #[derive(Drop)]
 pub struct RealOrigins<R: Files<File = File> + Drop> {
     rt: R,
@@ -104,8 +104,9 @@ impl<R: Files<File = File> + AllocGlobal + Clone + Drop + Send> Origins for Real
         let Ok(name) = String::from_str(self.alloc, path) else {
             return Opened::Memory;
         };
-        match File::open(&self.rt, path) {
-            Ok(file) => Opened::Found(RealSource::new(file, name)),
+        match open_input(&self.rt, path) {
+            Ok(Some(file)) => Opened::Found(RealSource::new(file, name)),
+            Ok(None) => Opened::NotFound,
             Err(fault) if is_absence(fault.kind()) => Opened::NotFound,
             Err(_) => {
                 self.refuse(path);
@@ -125,8 +126,9 @@ impl<R: Files<File = File> + AllocGlobal + Clone + Drop + Send> Origins for Real
         };
         match is_folder(&self.rt, path) {
             Ok(true) => Opened::Found(RealFolder::new(rt, self.alloc, name)),
+            Ok(false) => Opened::NotFound,
             Err(fault) if is_absence(fault.kind()) => Opened::NotFound,
-            _ => {
+            Err(_) => {
                 self.refuse(path);
                 Opened::Failed
             }
@@ -151,7 +153,18 @@ fn is_folder<R: Files>(rt: &R, path: &str) -> io::Result<bool> {
     Ok(fs::metadata(rt, path)?.is_dir())
 }
 
+// Opens the input at a path, unless a folder stands there. That is looked at before, since a folder that may not be read
+// does not open, and is none the less no input.
+fn open_input<R: Files<File = File>>(rt: &R, path: &str) -> io::Result<Option<File>> {
+    if is_folder(rt, path)? {
+        return Ok(None);
+    }
+    Ok(Some(File::open(rt, path)?))
+}
+
 // Nothing stands at a path that does not lead on either: one of its folders is absent, or is no folder.
-fn is_absence(kind: ErrorKind) -> bool {
+fn is_absence(kind: ErrorKind) -> bool
+    ensures { IsTrue result ↔ ((kind ≡ ErrorKind.NotFound) ⊎ (kind ≡ ErrorKind.NotADirectory)) }
+{
     matches!(kind, ErrorKind::NotFound | ErrorKind::NotADirectory)
 }

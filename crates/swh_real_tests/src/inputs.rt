@@ -1,6 +1,7 @@
 // Inputs over files.
 use std::alloc::AllocError;
 use std::fs::File;
+use std::io;
 use std::test::Fail;
 use swh_outside::{Opened, Origins, Source};
 use swh_real::{RealOrigins, RealSource};
@@ -19,9 +20,9 @@ enum Act {
     Fails,
     // The same, as the system opens it for this process.
     EndsAsTheSystem,
-    // It is opened, a read fails, and it is given back.
+    // A source over the file there, which is opened for writing alone, fails and is given back.
     IsUnread,
-    // It is opened as a folder and given back, nothing stands there, or it is no folder.
+    // It is opened as a folder and given back, no folder stands there, or that cannot be seen.
     OpensAsFolder,
     IsNoPlace,
     FailsAsFolder,
@@ -52,7 +53,6 @@ fn found_does(source: &mut RealSource, act: Act) -> bool {
     match act {
         Gives(whole) => gives(source, whole),
         Opens => true,
-        IsUnread => source.get(&mut [0; 5]).is_err(),
         _ => false,
     }
 }
@@ -79,6 +79,23 @@ fn ends_as_the_system(rt: &HostRuntime, origins: &mut HostOrigins, path: &str) -
     }
 }
 
+// A source over a file that may not be read, whoever runs.
+fn unread(rt: &HostRuntime, path: &str) -> io::Result<RealSource> {
+    let name = String::from_str(rt.alloc(), path)?;
+    Ok(RealSource::new(File::create(rt, path)?, name))
+}
+
+fn is_unread(rt: &HostRuntime, origins: &mut HostOrigins, path: &str) -> bool {
+    match unread(rt, path) {
+        Ok(mut source) => {
+            let fails = source.get(&mut [0; 5]).is_err();
+            origins.back(source);
+            fails
+        }
+        Err(_) => false,
+    }
+}
+
 fn opens_as_folder(origins: &mut HostOrigins, path: &str) -> bool {
     match origins.folder(path) {
         Opened::Found(folder) => {
@@ -93,6 +110,7 @@ fn opens_as_folder(origins: &mut HostOrigins, path: &str) -> bool {
 fn does(rt: &HostRuntime, origins: &mut HostOrigins, path: &str, act: Act) -> bool {
     match act {
         EndsAsTheSystem => ends_as_the_system(rt, origins, path),
+        IsUnread => is_unread(rt, origins, path),
         OpensAsFolder => opens_as_folder(origins, path),
         IsNoPlace => matches!(&origins.folder(path), Opened::NotFound),
         FailsAsFolder => matches!(&origins.folder(path), Opened::Failed),
@@ -172,7 +190,7 @@ const OPENED: &[Row] = &[
     ("absent", Faults(0)),
     ("shut/more", IsNotFound),
     ("shut/more", Faults(0)),
-    (".", Opens),
+    (".", IsNotFound),
     (".", Faults(0)),
 ];
 
@@ -183,16 +201,16 @@ fn an_opening_ends_as_the_system_says(rt: HostRuntime) -> Result<(), Fail> {
 }
 
 const UNREAD: &[Row] = &[
-    (".", IsUnread),
-    (".", AllFaults(1)),
-    (".", Faults(1)),
+    ("one", Opens),
+    ("one", IsUnread),
+    ("one", AllFaults(1)),
+    ("one", Faults(1)),
     ("elsewhere", Faults(0)),
 ];
 
-/// A folder opens as an input, and no byte of it is read.
 #[test]
 fn a_read_that_fails_is_counted(rt: HostRuntime) -> Result<(), Fail> {
-    all_done_anew(&rt, "reads", &[], UNREAD)
+    all_done_anew(&rt, "reads", INPUTS, UNREAD)
 }
 
 const FOLDERS: &[Laid] = &[
@@ -208,16 +226,17 @@ const OPENED_AS_FOLDERS: &[Row] = &[
     ("link", OpensAsFolder),
     ("absent", IsNoPlace),
     ("f/more", IsNoPlace),
+    ("f", IsNoPlace),
+    ("d", IsNotFound),
+    ("link", IsNotFound),
     (".", AllFaults(0)),
-    ("f", FailsAsFolder),
-    ("f", Faults(1)),
     ("knot", FailsAsFolder),
     ("knot", Faults(1)),
     ("d", Faults(0)),
-    (".", AllFaults(2)),
+    (".", AllFaults(1)),
 ];
 
-/// The path of an input may be a link to a folder.
+/// The path of an input may be a link to a folder. A file is no folder, and a folder no file.
 #[test]
 fn folders_are_opened(rt: HostRuntime) -> Result<(), Fail> {
     all_done_anew(&rt, "folder_inputs", FOLDERS, OPENED_AS_FOLDERS)

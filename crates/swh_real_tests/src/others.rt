@@ -1,7 +1,9 @@
 // The clock, the sink, and the parts whose calls fail.
 use std::fs::File;
+use std::io::ErrorKind;
 use std::test::Fail;
-use std::time::{SystemTime, UNIX_EPOCH};
+use std::time::{Duration, SystemTime, UNIX_EPOCH};
+use std::{io, rt};
 use swh_outside::{Clock, Doors, Failed, OutFault, Sink, Source};
 use swh_real::{RealClock, RealDoors, RealLink, RealSink};
 use swh_rooms::{clear, fresh_room, is_file, path_in};
@@ -25,6 +27,44 @@ fn a_clock_says_the_second(rt: HostRuntime) -> Result<(), Fail> {
     let mut clock = RealClock::new(rt.clone()?);
     assert!(rt; says_the_second(&rt, &mut clock) && clock.faults() == 0);
     Ok(())
+}
+
+// A clock of the system that says one time, or fails.
+#[derive(Drop)]
+struct Stopped {
+    time: Option<Duration>,
+}
+
+impl rt::Clock for Stopped {
+    fn monotonic(&self) -> io::Result<Duration> {
+        self.since_1970()
+    }
+
+    fn since_1970(&self) -> io::Result<Duration> {
+        match self.time {
+            Some(time) => Ok(time),
+            None => Err(io::Error::from(ErrorKind::Unsupported)),
+        }
+    }
+}
+
+// A second and a part of it that the system says, if it says one, and what the clock says then.
+const SAID: [(Option<(u64, u32)>, Result<u64, Failed>); 6] = [
+    (Some((0, 0)), Ok(0)),
+    (Some((0, 999_999_999)), Ok(0)),
+    (Some((1_700_000_001, 0)), Ok(1_700_000_001)),
+    (Some((1_700_000_002, 500_000_000)), Ok(1_700_000_002)),
+    (Some((1 << 40, 0)), Ok(1 << 40)),
+    (None, Err(Failed)),
+];
+
+#[test]
+fn a_clock_says_each_second(rt: HostRuntime) {
+    for (number, (said, second)) in SAID.iter().enumerate() {
+        let time = said.map(|(seconds, part)| Duration::new(seconds, part));
+        let mut clock = RealClock::new(Stopped { time });
+        assert_eq!(rt; clock.now(), *second, "row {number}");
+    }
 }
 
 // Pieces, and what was put in all once each was.

@@ -33,11 +33,7 @@ const NAMES: [Run; 6] = [
     ),
     (&["identify", "dir", "@/L"], 1, b"swharc: other ln\n"),
     (&["identify", "dir", "@/none"], 1, b"swharc: not found\n"),
-    (
-        &["identify", "dir", "@/file"],
-        4,
-        b"swharc: outside folder\n",
-    ),
+    (&["identify", "dir", "@/file"], 1, b"swharc: not found\n"),
 ];
 
 #[test]

@@ -14,13 +14,15 @@ const LAID: [Laid; 4] = [
     ("L/0", Thing::Link("../A/0")),
 ];
 
-const REFUSALS: [Run; 12] = [
+const REFUSALS: [Run; 14] = [
     (&["identify", "cnt", "@/none"], 1, b"swharc: not found\n"),
     (&["identify", "rev", "@/bad"], 1, b"swharc: bad rev 0\n"),
     (&[], 2, b"swharc: words\n"),
     (&["init"], 2, b"swharc: words\n"),
     (&["init", "@/B", "@/C"], 2, b"swharc: words\n"),
     (&["load", "@/A", "@/none"], 2, b"swharc: no job file\n"),
+    (&["identify", "cnt", "@/L"], 1, b"swharc: not found\n"),
+    (&["load", "@/A", "@/L"], 2, b"swharc: no job file\n"),
     (&["load", "@/A", "@/bad"], 2, b"swharc: job line 1: form\n"),
     (&["init", "@/A"], 3, b"swharc: made\n"),
     (&["ask", "@/none", "/x"], 3, b"swharc: not made\n"),

@@ -54,6 +54,40 @@ fn an_archive_is_made_loaded_and_checked(rt: HostRuntime) -> Result<(), Fail> {
     clear(&rt, room.as_str())
 }
 
+// A job for each path at which the other stands: a folder in the place of a stream, of a listing, of a batch and of refs,
+// and a file in that of a folder.
+fn lay_crossed_jobs(rt: &HostRuntime, room: &str) -> Result<(), Fail> {
+    let path = path_in(rt.alloc(), room, "jobs")?;
+    let jobs = format!(in rt.alloc();
+        "fast\thttps://e.org/1\t{room}
+dir\thttps://e.org/2\t{room}/stream
+dir\thttps://e.org/3\t{room}\t{room}
+batch\thttps://e.org/4\t{room}\t{room}/stream
+batch\thttps://e.org/5\t{room}/stream\t{room}
+"
+    )?;
+    Ok(fs::write(rt, path.as_str(), jobs.as_bytes())?)
+}
+
+const CROSSED: [Run; 2] = [
+    (INIT, 0, b"made\n"),
+    (
+        LOAD,
+        1,
+        b"https://e.org/1\t1\tnot_found\t-\nhttps://e.org/2\t1\tnot_found\t-\n\
+https://e.org/3\t1\tnot_found\t-\nhttps://e.org/4\t1\tnot_found\t-\n\
+https://e.org/5\t1\tnot_found\t-\n",
+    ),
+];
+
+#[test]
+fn a_file_is_no_folder_and_a_folder_no_file(rt: HostRuntime) -> Result<(), Fail> {
+    let room = fresh_room(&rt, "crossed", &[("stream", Thing::File(STREAM))])?;
+    lay_crossed_jobs(&rt, room.as_str())?;
+    all_end_so(&rt, room.as_str(), &CROSSED)?;
+    clear(&rt, room.as_str())
+}
+
 // What is printed of two paths: before the date of the visit, behind its ten digits, and up to the second's length.
 const BEFORE_DATE: &[u8] = b"200 142\n[{\"date\":";
 

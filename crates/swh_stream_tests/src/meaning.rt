@@ -53,3 +53,38 @@ fn one_body_once(rt: HostRuntime) -> Result<(), Fail> {
     }
     Ok(())
 }
+
+/// How many contents are made, each another one.
+const MANY: u32 = 70_000;
+
+/// Some of them, the first and the last among them, which are not new again.
+const AGAIN: &[u32] = &[0, 4_999, 5_000, 5_002, 65_535, 65_536, 69_999];
+
+fn is_number_new(alloc: Global, seen: &mut Seen<Sha1Namer>, number: u32) -> Result<bool, Fail> {
+    is_new(alloc, seen, &number.to_be_bytes())
+}
+
+fn are_new(alloc: Global, seen: &mut Seen<Sha1Namer>) -> Result<(), Fail> {
+    for number in 0..MANY {
+        if !is_number_new(alloc, seen, number)? {
+            return Err(Fail::new(number));
+        }
+    }
+    Ok(())
+}
+
+/// No number of contents is too high while there is memory.
+#[test]
+fn many_contents_are_seen(rt: HostRuntime) -> Result<(), Fail> {
+    let alloc = rt.alloc();
+    let mut seen = Seen::new(alloc);
+    are_new(alloc, &mut seen)?;
+    for number in AGAIN {
+        assert_eq!(rt;
+            is_number_new(alloc, &mut seen, *number)?,
+            false,
+            "number {number}"
+        );
+    }
+    Ok(())
+}
