@@ -60,7 +60,7 @@ module _ (bodies : Bodies) (children_of : Name → Option (List Name)) (graph : 
 
   module _ (preceded : ArePreceded children_of order) where
     -- the contents of a directory's files are in the order
-    files_of : (id : List ℕ) (entries : List DirectoryEntry) (e : DirectoryEntry) → Contains order (directory_name id) → HoldsDirectory bodies (directory_name id) entries → Contains entries e → IsFileIn order e
+    pub files_of : (id : List ℕ) (entries : List DirectoryEntry) (e : DirectoryEntry) → Contains order (directory_name id) → HoldsDirectory bodies (directory_name id) entries → Contains entries e → IsFileIn order e
     files_of id entries e in_order holds there folder project =
         let c = cut_at order (directory_name id) in_order in
         let kid : IsChildIn children_of (directory_name id) (content_name e.id) = record { kids = filter_map child_of entries; held = kids_are bodies children_of graph id entries holds; one_of = file_in entries e there folder project } in

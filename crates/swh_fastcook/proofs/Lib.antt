@@ -2,6 +2,7 @@ pub mod Acyclic
 pub mod CommitTexts
 pub mod Cooked
 pub mod EndTexts
+pub mod FileLengths
 pub mod FileWalks
 pub mod HeadTargets
 pub mod Judged

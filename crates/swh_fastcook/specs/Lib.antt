@@ -3,7 +3,9 @@ pub mod Cook
 pub mod Ends
 pub mod Files
 pub mod Length
+pub mod Lengths
 pub mod Loaded
 pub mod Ready
 pub mod Stream
 pub mod Tips
+pub mod Weighed

@@ -38,7 +38,7 @@ fn text_of(text: &Option<Bytes>) -> Option<&[u8]>
 }
 
 /// Appends a tag up to its message.
-fn push_tag_lines(
+pub fn push_tag_lines(
     held: &mut Vec<u8>,
     marks: &Marks,
     name: Name,
@@ -117,7 +117,7 @@ fn push_beginning(held: &mut Vec<u8>, ids: &[[u8; 20]]) -> Result<(), Memory>
 }
 
 /// Appends a commit up to its message.
-fn push_commit_lines(held: &mut Vec<u8>, mark: u64, plain: &PlainRev) -> Result<(), Memory>
+pub fn push_commit_lines(held: &mut Vec<u8>, mark: u64, plain: &PlainRev) -> Result<(), Memory>
     ensures { OnOk result (held.new.items ≡ held.old.items ++ (beginning plain.now.parents
         ++ (commit_head mark plain.now.author plain.now.committer plain.now.encoding ++ data_line (length plain.now.message)))) }
 {
@@ -133,7 +133,7 @@ fn push_commit_lines(held: &mut Vec<u8>, mark: u64, plain: &PlainRev) -> Result<
 }
 
 /// Appends what stands between a commit's message and the lines of its files.
-fn push_parent_lines(held: &mut Vec<u8>, marks: &Marks, plain: &PlainRev) -> Result<(), Memory>
+pub fn push_parent_lines(held: &mut Vec<u8>, marks: &Marks, plain: &PlainRev) -> Result<(), Memory>
     requires { (id : List ℕ) → Contains plain.now.parents id → Contains marks.now (revision_name id) }
     ensures { OnOk result (held.new.items ≡ held.old.items ++ (parents_text marks.now plain.now.parents ++ codes "deleteall\n")) }
 {

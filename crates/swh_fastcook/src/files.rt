@@ -1,5 +1,5 @@
 //! The files of a revision's tree.
-ghost use Rattle.std.specs.Prelude.{◌≡◌, ◌++◌, OnOk, Contains};
+ghost use Rattle.std.specs.Prelude.{◌≡◌, ◌≤◌, ◌++◌, OnOk, Contains, length, max};
 ghost use Rattle.swh_dirfmt.specs.Entries.{entry_of};
 ghost use Rattle.swh_graph.specs.Path.{directory_name};
 ghost use Rattle.swh_postorder.specs.Cycle.{IsSomePostorder, ArePreceded};
@@ -39,7 +39,7 @@ fn push_entry(
     push_file(held, entry.mode, marks.get(&Name { kind, id }), path)
 }
 
-/// Writes the lines of the files of a directory, in the order of the walk over its paths.
+/// Writes the lines of the files of a directory, in the order of the walk over its paths. Few bytes are held behind each line.
 pub fn write_files<L: Look, T: Taker>(
     alloc: Global,
     look: &L,
@@ -53,6 +53,7 @@ pub fn write_files<L: Look, T: Taker>(
     requires there { Contains marks.now (directory_name directory) }
     ensures bytes { WroteSome T.takes T.takes_front (kept taker.old held.old.items)
         (AreFilesOf (L.archive look.now).bodies marks.now directory) (kept taker.new held.new.items) result }
+    ensures few { OnOk result (length held.new.items ≤ max (length held.old.items) 65535) }
     ensures cause { HasWriteCause (T.failures taker.old) (T.failures taker.new) result }
 {
     look.is_graph();

@@ -1,7 +1,8 @@
 //! Cooking: a name is written as a stream (git-fast-import(1)) of what is reached from it, and a content as its bytes.
 //! Stands on `swh_carried`, which has the order of the objects, on `swh_marks`, which has their marks, on `swh_fastcarried`,
 //! which has what a stream cannot carry, on `swh_pathwalk` and `swh_fasttext`, which have the files of a tree and the text of
-//! each command, and on `swh_written`, which takes a text piece by piece.
+//! each command, on `swh_pathsums`, which has how long the lines of a tree's files are, and on `swh_written`, which takes a text
+//! piece by piece.
 //! Callers may rely on: the first name that is not held is told, or else the first object that a stream cannot carry, before
 //! anything is put; what is put is the text that the definition of streams gives, or a front of it at a failure.
 #![tactic(auto)]
@@ -19,13 +20,14 @@ mod ready;
 mod stream;
 mod tags;
 mod tips;
+mod weighed;
 
 pub use commits::{write_blob, write_commit, write_tag};
 pub use cooking::cook;
 pub use ends::write_end;
 pub use files::write_files;
 pub use heads::head_of;
-pub use length::is_long_stream;
+pub use length::{is_long_stream, stream_length};
 pub use loaded::loads_many;
 pub use objects::write_objects;
 pub use ready::{Ready, make_ready};

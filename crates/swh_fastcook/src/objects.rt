@@ -19,7 +19,7 @@ use swh_revfmt::{plain_rel, plain_rev};
 use swh_written::Taker;
 
 /// The body of a name in the order.
-fn body_at<'a, L: Look>(look: &'a L, marks: &Marks, name: &Name) -> &'a Shared<u8>
+pub fn body_at<'a, L: Look>(look: &'a L, marks: &Marks, name: &Name) -> &'a Shared<u8>
     requires order { IsSomePostorder (L.children_of look.now) marks.now }
     requires there { Contains marks.now name.now }
     ensures { body_of (L.archive look.now).bodies name.now ≡ Some result.now }

@@ -1,5 +1,5 @@
 //! Pieces of a text.
-ghost use Rattle.std.specs.Prelude.{◌≡◌, ◌++◌, ◌∷◌, [], OnOk};
+ghost use Rattle.std.specs.Prelude.{◌≡◌, ◌<◌, ◌++◌, ◌∷◌, [], OnOk, length};
 ghost use Rattle.swh_written.specs.Held.{Wrote, kept};
 ghost use Rattle.swh_fastcook.specs.Cause.{HasWriteCause};
 
@@ -21,6 +21,7 @@ pub fn hold(held: &mut Vec<u8>, bytes: &[u8]) -> Result<(), Memory>
 /// Has bytes taken behind those that are held. Few bytes are held with them.
 pub fn put_bytes<T: Taker>(taker: &mut T, held: &mut Vec<u8>, bytes: &[u8]) -> Result<(), CookFault>
     ensures bytes { Wrote T.takes T.takes_front (kept taker.old held.old.items) bytes.now (kept taker.new held.new.items) result }
+    ensures few { OnOk result (length held.new.items < 131072) }
     ensures cause { HasWriteCause (T.failures taker.old) (T.failures taker.new) result }
 {
     if bytes.len() >= LARGE {

@@ -12,6 +12,8 @@ mod cooked_cycles;
 #[cfg(test)]
 mod cycles;
 #[cfg(test)]
+mod lengths;
+#[cfg(test)]
 mod limits;
 #[cfg(test)]
 mod refused;

@@ -55,7 +55,7 @@ fn push_entry(body: &mut Vec<u8>, mode: &[u8], length: usize, name: &Name) -> Re
 }
 
 /// A commit of a directory, with a message of so many letters and an LF.
-fn put_commit(
+pub fn put_commit(
     alloc: Global,
     shown: &mut Replayed,
     directory: &Name,

@@ -35,6 +35,7 @@ pub fn settle<T: Taker>(taker: &mut T, held: &mut Vec<u8>) -> Result<(), Failed>
 /// Has bytes taken behind those that are held, without a copy of them.
 pub fn take_large<T: Taker>(taker: &mut T, held: &mut Vec<u8>, bytes: &[u8]) -> Result<(), Failed>
     ensures bytes { Wrote T.takes T.takes_front (kept taker.old held.old.items) bytes.now (kept taker.new held.new.items) result }
+    ensures emptied { OnOk result (held.new.items ≡ []) }
     ensures cause { HasCause (T.failures taker.old) (T.failures taker.new) result }
 {
     flush(taker, held)?;

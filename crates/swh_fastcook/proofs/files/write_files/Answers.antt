@@ -1,4 +1,4 @@
-use Rattle.std.proofs.Common.{◌≡◌, ℕ, List, [], ◌∷◌, ◌++◌, refl, sym, ap, ◌∙◌, subst}
+use Rattle.std.proofs.Common.{◌≡◌, arith, ℕ, List, [], ◌∷◌, ◌++◌, refl, sym, ap, ◌∙◌, subst}
 use Rattle.swh_base.specs.declared.name.Name.{Name}
 use Rattle.swh_heldpaths.specs.Held.{IsHeldOrder}
 use Rattle.swh_pathwalk.specs.Weight.{LeadInto}
@@ -33,6 +33,7 @@ entries-init g c =
       quiet = refl;
       rows = [];
       so_far = rows_begin bodies c.args.directory c.in_ok-walk.walk c.in_ok-walk.ensures;
+      few = omega arith;
       goes = goes_none g.T.Taker.takes g.T.Taker.takes_front g.met.T.Taker.adds_up (kept c.args.taker.now c.args.held.now.items);
     }
 
@@ -87,6 +88,7 @@ entries-preserved g c =
       quiet = c.in_ok-settle.ensures.cause.quiet ∙ inv.quiet;
       rows = inv.rows ++ row ∷ [];
       so_far = rows_more bodies c.args.directory inv.rows c.entries.walk c.next.new.walk entry s inv.so_far;
+      few = (let small = c.in_ok-settle.ensures.few in omega (arith, small));
       goes =
           files_more g.T.Taker.takes g.T.Taker.takes_front g.met.T.Taker.adds_up order old mid new inv.rows row inv.goes
           (settled g.T.Taker.takes g.T.Taker.takes_front g.met.T.Taker.adds_up c.entries.taker c.entries.held.items (file_text order row) c.push_entry.new.held.items new line c.in_ok-settle.ensures.bytes.ok);

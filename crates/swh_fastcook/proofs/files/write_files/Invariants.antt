@@ -1,4 +1,4 @@
-use Rattle.std.proofs.Common.{◌≡◌, length, List}
+use Rattle.std.proofs.Common.{◌≡◌, ◌≤◌, length, max, List}
 use Rattle.swh_pathwalk.specs.Tree.{Row}
 use Rattle.swh_pathwalk.specs.Weight.{coming_weight}
 use Rattle.swh_written.specs.Held.{Goes, kept}
@@ -12,6 +12,7 @@ invariant-entries g l = record {
   quiet : g.T.Taker.failures l.taker ≡ g.T.Taker.failures l.initial.taker;
   rows : List Row;
   so_far : RowsSoFar (g.L.Look.archive l.look).bodies l.fn.directory rows l.walk.levels;
+  few : length l.held.items ≤ max (length l.initial.held.items) 65535;
   goes : Goes g.T.Taker.takes g.T.Taker.takes_front (kept l.initial.taker l.initial.held.items) (files_text l.marks rows) (kept l.taker l.held.items);
 }
 
