@@ -1,0 +1,5 @@
+pub mod UpTo
+pub mod RowSums
+pub mod Rows
+pub mod Kept
+pub mod Entries
