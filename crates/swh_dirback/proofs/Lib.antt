@@ -11,3 +11,4 @@ pub mod Objects
 pub mod Carried
 pub mod Whole
 pub mod Law
+pub mod HoldingTree

@@ -132,14 +132,14 @@ shown_sorted es good = λ k d low high. sorted_by (shown es) (shown_up es good) 
 -- ---- permutations
 
 -- The names of these differ.
-abbrev NameFresh : FolderEntry → FolderEntry → Type 0
+abbrev pub NameFresh : FolderEntry → FolderEntry → Type 0
 NameFresh f g = f.name ≢ g.name
 
-abbrev AreFresh : List FolderEntry → Type 0
+abbrev pub AreFresh : List FolderEntry → Type 0
 AreFresh [] = Unit {0}
 AreFresh (f ∷ fs) = AllByRecursion (NameFresh f) fs × AreFresh fs
 
-shown_fresh : (es : List DirectoryEntry) → AreEntries es → AreFresh (shown es)
+pub shown_fresh : (es : List DirectoryEntry) → AreEntries es → AreFresh (shown es)
 shown_fresh [] good = tt
 shown_fresh (e ∷ es) good = by (shown_fresh es good.3) (shown_of e) refl
   where
@@ -229,6 +229,11 @@ name_at [] k d less = absurd (omega (arith, less))
 name_at (f ∷ fs) zero d less = refl
 name_at (f ∷ fs) (suc k) d less = name_at fs k d (omega (arith, less))
 
+from_names_at : (fs : List FolderEntry) (k : ℕ) (d : List ℕ) → k < length fs → (f : FolderEntry) × Contains fs f × (f.name ≡ get_or (map (λ e. e.name) fs) k d)
+from_names_at [] k d less = absurd (omega (arith, less))
+from_names_at (f ∷ fs) zero d less = (f, first_is f fs, refl)
+from_names_at (f ∷ fs) (suc k) d less = let h = from_names_at fs k d (omega (arith, less)) in (h.0, later_is f fs h.0 h.1, h.2)
+
 pub once_fresh : (fs : List FolderEntry) → AllPairs (λ a b. a ≢ b) (map (λ e. e.name) fs) → AreFresh fs
 once_fresh [] once = tt
 once_fresh (f ∷ fs) once = (
@@ -239,6 +244,20 @@ once_fresh (f ∷ fs) once = (
       once 0 (suc there.0) [] (omega arith) (omega (arith, less, n)) (same ∙ ap (λ (z : FolderEntry). z.name) (sym there.2) ∙ sym (name_at fs there.0 g less))),
   once_fresh fs (names_tail f fs once),
 )
+
+-- the same from the entries to their names
+pub fresh_once : (fs : List FolderEntry) → AreFresh fs → AllPairs (λ a b. a ≢ b) (map (λ e. e.name) fs)
+fresh_once fs fresh = λ i j d less within.
+    let same_long = names_long fs in
+    by fs fresh i j d less (omega (arith, within, same_long))
+  where
+    by : (fs : List FolderEntry) → AreFresh fs → (i j : ℕ) (d : List ℕ) → i < j → j < length fs → get_or (map (λ e. e.name) fs) i d ≢ get_or (map (λ e. e.name) fs) j d
+    by [] fresh i j d less within = absurd (omega (arith, within))
+    by (f ∷ fs) fresh i zero d less within = absurd (omega (arith, less))
+    by (f ∷ fs) fresh zero (suc j) d less within = λ same.
+        let named = from_names_at fs j d (omega (arith, within)) in
+        each_is (NameFresh f) fs named.0 fresh.0 named.1 (same ∙ sym named.2)
+    by (f ∷ fs) fresh (suc i) (suc j) d less within = by fs fresh.1 i j d (omega (arith, less)) (omega (arith, within))
 
 -- ---- good names
 

@@ -40,14 +40,14 @@ look_up (p ∷ pairs) = λ path. cond (bytes_eq path p.0) p.1 (look_up pairs pat
 abbrev pub with_top : List Pair → Places
 with_top pairs = λ path. cond (bytes_eq path []) (Some stands.Folder) (look_up pairs path)
 
-is_same : (a b : List ℕ) → a ≡ b → bytes_eq a b ≡ true
+pub is_same : (a b : List ℕ) → a ≡ b → bytes_eq a b ≡ true
 is_same a b e = (bytes_eq-Decides a b).1 e
 
 not_true : (b : Bool) → (b ≡ true → ⊥) → b ≡ false
 not_true true f = absurd (f refl)
 not_true false f = refl
 
-is_other : (a b : List ℕ) → (a ≡ b → ⊥) → bytes_eq a b ≡ false
+pub is_other : (a b : List ℕ) → (a ≡ b → ⊥) → bytes_eq a b ≡ false
 is_other a b n = not_true (bytes_eq a b) (λ t. n ((bytes_eq-Decides a b).0 t))
 
 -- Two have different paths.

@@ -198,7 +198,7 @@ module _ (bodies : Bodies) (tree : Tree) (good : IsGood tree) (entries : AreEntr
     what_by true w e = inl (sym e, refl)
     what_by false w e = inr (sym e, refl)
 
-    made_shown : (f : FolderEntry) → Contains (shown es) f → IsEntryName f.name × IsMadeAt out things (child dir f.name) f.what
+    pub made_shown : (f : FolderEntry) → Contains (shown es) f → IsEntryName f.name × IsMadeAt out things (child dir f.name) f.what
     made_shown f there =
         let h = from_shown es f there in
         let s = shown_as h.0 f h.2 in
@@ -219,7 +219,7 @@ module _ (bodies : Bodies) (tree : Tree) (good : IsGood tree) (entries : AreEntr
     shown_by : (e : DirectoryEntry) (name : List ℕ) (what : What) → (e.mode == 160000) ≡ false → e.name ≡ name → what_of e.mode ≡ what → shown_of e ≡ Some (let g : FolderEntry = record { name = name; what = what } in g)
     shown_by e name what project named is = cc
 
-    shown_made : (name : List ℕ) (what : What) → IsEntryName name → IsMadeAt out things (child dir name) what → Contains (shown es) (let g : FolderEntry = record { name = name; what = what } in g)
+    pub shown_made : (name : List ℕ) (what : What) → IsEntryName name → IsMadeAt out things (child dir name) what → Contains (shown es) (let g : FolderEntry = record { name = name; what = what } in g)
     shown_made name File named (bytes, there) =
         let n = file_from (child dir name) bytes there in
         let at = node_in bodies tree good entries held dir es name n.0 is_dir named n.1 n.4 in

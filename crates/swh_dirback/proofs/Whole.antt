@@ -235,7 +235,7 @@ module _
     files_length_is = not_more (files_length bodies R) FILES_LIMIT (λ over. carried.none (directory_name dir_id) (first_there children_of (directory_name dir_id) order is) Length (refl, record { rows = R; walk = walk; long = inl over }))
 
     listing_is : length (listing_text R) ≤ LISTING_LIMIT
-    listing_is = not_more (length (listing_text R)) LISTING_LIMIT (λ over. carried.none (directory_name dir_id) (first_there children_of (directory_name dir_id) order is) Length (refl, record { rows = R; walk = walk; long = inr over }))
+    listing_is = not_more (length (listing_text R)) LISTING_LIMIT (λ over. carried.none (directory_name dir_id) (first_there children_of (directory_name dir_id) order is) Length (refl, record { rows = R; walk = walk; long = inr (inl over) }))
 
     said : IsListing (listing_text R) (all_listed R)
     said = reread (all_listed R) (lines_good bodies children_of graph dir_id order is carried of_bytes R (λ row there. good_row bodies children_of graph dir_id order is carried of_bytes R walk row there)) listing_is

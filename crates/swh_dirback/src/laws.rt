@@ -35,3 +35,9 @@ pub fn made_folders_load_back()
         → IsGraphOf bodies children_of → root.kind ≡ Directory → length root.id ≡ 20 → HoldsMade out m.made tree
         → LoadsBack id tree (listing_text m.folder.rows) root }
 {}
+
+/// Some tree holds what was made of a directory: there is always a folder that the laws before speak of.
+pub fn some_folder_holds_what_was_made()
+    ensures { (bodies : Bodies) (root : Name) (out : List ℕ) (made : List Made) → IsFolderOf bodies root out made
+        → (tree : Tree) × HoldsMade out made tree }
+{}

@@ -1,102 +1,103 @@
--- How long all that is under a directory is.
-use Rattle.std.proofs.Common.{◌≡◌, ◌⊎◌, inl, inr, ℕ, ◌+◌, ◌<◌, ◌≤◌, ◌^◌, Bool, true, false, nat_le, List, [], ◌∷◌, ◌++◌, length, refl, sym, ap, ◌∙◌, arith}
-use Rattle.std.specs.Prelude.{◌↔◌, IsTrue}
-use Rattle.std.proofs.lemmas.Bool.{leb-true, leb-false}
+-- How long all that is under a directory is, by what its rows weigh.
+use Rattle.std.proofs.Common.{◌≡◌, ◌⊎◌, inl, inr, ℕ, ◌+◌, ◌<◌, ◌^◌, Bool, true, false, Option, Some, None, List, [], ◌∷◌, ◌++◌, length, refl, sym, ap, ◌∙◌, subst, arith}
+use Rattle.std.specs.Prelude.{◌↔◌, IsTrue, ◌==◌, if◌then◌else◌, codes}
+use Rattle.hex.specs.Hex.{encode_lower, lower_digits}
+use Rattle.hex.proofs.HexLemmas.{length-encode_with}
 use Rattle.std.proofs.lemmas.List.{length-append}
 use Rattle.swh_base.specs.declared.name.Name.{Name}
+use Rattle.swh_base.specs.Directory.{DirectoryEntry}
 use Rattle.swh_model.specs.Archive.{Bodies}
+use Rattle.swh_fasttext.specs.Quoted.{quoted_path}
+use Rattle.swh_listing.specs.declared.listed.Mode.{Mode}
+use Rattle.swh_listing.specs.declared.listed.Mode.TheVariants.{Executable, Link, Project}
+use Rattle.swh_listing.specs.Line.{mode_text}
 use Rattle.swh_pathwalk.specs.Tree.{Row, IsPathWalk}
+use Rattle.swh_pathsums.specs.Lengths.{IsUpTo, path_length, rows_length}
 use Rattle.swh_heldpaths.proofs.Trees.{one_walk}
-use Rattle.swh_dircook.specs.Lengths.{IsSum}
-use Rattle.swh_dircook.specs.Listing.{listing_text}
-use Rattle.swh_dircook.specs.Rules.{file_length, files_length, IsLongFolder}
-use Rattle.swh_dircook.proofs.Lines.{line_of, listing_next, listing_cut}
+use Rattle.swh_dircook.specs.Listing.{line_or_none, with_path, mode_of, listing_text}
+use Rattle.swh_dircook.specs.Rules.{files_length, IsLongFolder}
+use Rattle.swh_dircook.specs.Weights.{row_weight, file_weight, listed_weight, mode_weight, line_weight}
+use Rattle.swh_dircook.proofs.Lines.{line_of, listing_cut}
 
-module _ (bodies : Bodies) where
-  files_both : (xs ys : List Row) → files_length bodies (xs ++ ys) ≡ files_length bodies xs + files_length bodies ys
-  files_both [] ys = omega arith
-  files_both (x ∷ xs) ys = let rest = files_both xs ys in omega (arith, rest)
+pub rows_are : (rows : List Row) → rows_length row_weight rows ≡ length rows
+rows_are [] = refl
+rows_are (row ∷ rows) = let rest = rows_are rows in omega (arith, rest)
 
-  pub files_next : (given : List Row) (row : Row) → files_length bodies (given ++ row ∷ []) ≡ files_length bodies given + file_length bodies row.entry
-  files_next given row = let both = files_both given (row ∷ []) in omega (arith, both)
+pub files_are : (bodies : Bodies) (rows : List Row) → rows_length (file_weight bodies) rows ≡ files_length bodies rows
+files_are bodies [] = refl
+files_are bodies (row ∷ rows) = let rest = files_are bodies rows in omega (arith, rest)
 
-  files_cut : (given : List Row) (row : Row) (rest : List Row) → files_length bodies given + file_length bodies row.entry ≤ files_length bodies (given ++ row ∷ rest)
-  files_cut given row rest = let both = files_both given (row ∷ rest) in omega (arith, both)
+line_is : (path : List ℕ) (mode : Option Mode) → (mode_weight mode).bytes + path_length (mode_weight mode).with_path path ≡ length (line_or_none (with_path path mode))
+line_is path None = refl
+line_is path (Some mode) =
+    let whole = length-append (mode_text mode) (quoted_path path ++ 10 ∷ []) in
+    let end = length-append (quoted_path path) (10 ∷ []) in
+    omega (arith, whole, end)
 
-  lines_cut : (given : List Row) (row : Row) (rest : List Row) → length (listing_text given) + length (line_of row) ≤ length (listing_text (given ++ row ∷ rest))
-  lines_cut given row rest =
-      let whole = ap (λ (l : List ℕ). length l) (listing_cut given row rest) in
-      let first = length-append (listing_text given) (line_of row ++ listing_text rest) in
-      let second = length-append (line_of row) (listing_text rest) in
-      omega (arith, whole, first, second)
+pub lines_are : (rows : List Row) → rows_length line_weight rows ≡ length (listing_text rows)
+lines_are [] = refl
+lines_are (row ∷ rows) =
+    let rest = lines_are rows in
+    let own = line_is row.path (mode_of row.entry) in
+    let cut = ap (λ (l : List ℕ). length l) (listing_cut [] row rows) in
+    let both = length-append (line_of row) (listing_text rows) in
+    omega (arith, rest, own, cut, both)
 
-  pub lines_next : (given : List Row) (row : Row) → length (listing_text (given ++ row ∷ [])) ≡ length (listing_text given) + length (line_of row)
-  lines_next given row = ap (λ (l : List ℕ). length l) (listing_next given row) ∙ length-append (listing_text given) (line_of row)
+-- whether what was found is above the limit is whether the length is
+pub above_is : (exact found : ℕ) → IsUpTo exact found → (2 ^ 32 < found) ↔ (2 ^ 32 < exact)
+above_is exact found (inl is) = (λ over. omega (arith, is, over), λ over. omega (arith, is, over))
+above_is exact found (inr both) = (λ _. both.1, λ _. both.0)
 
-  -- the counts of the rows that were given
-  pub record AreCounted (given : List Row) (files listing : ℕ) : Type 0 where
-    pub of_files : files ≡ files_length bodies given
-    pub of_listing : listing ≡ length (listing_text given)
+-- the same of a test
+pub test_is : (above : Bool) (exact found : ℕ) → IsTrue above ↔ (2 ^ 32 < found) → IsUpTo exact found → IsTrue above ↔ (2 ^ 32 < exact)
+test_is above exact found test is = let same = above_is exact found is in (λ t. same.0 (test.0 t), λ over. test.1 (same.1 over))
 
-  pub none_counted : AreCounted [] 0 0
-  none_counted = record { of_files = refl; of_listing = refl }
+module _ (bodies : Bodies) (root : Name) (rows : List Row) (walk : IsPathWalk bodies root rows) where
+  pub many_rows : 2 ^ 32 < rows_length row_weight rows → IsLongFolder bodies root
+  many_rows over = record { rows = rows; walk = walk; long = inr (inr (let are = rows_are rows in omega (arith, over, are))) }
 
-  sum_above : (count more sum total : ℕ) → IsSum count more sum → 2 ^ 32 < sum → count + more ≤ total → 2 ^ 32 < total
-  sum_above count more sum total (inl is) above all = omega (arith, is, above, all)
-  sum_above count more sum total (inr both) above all = let over = both.1 in omega (arith, over, all)
+  pub large_files : 2 ^ 32 < rows_length (file_weight bodies) rows → IsLongFolder bodies root
+  large_files over = record { rows = rows; walk = walk; long = inl (let are = files_are bodies rows in omega (arith, over, are)) }
 
-  sum_is : (count more sum : ℕ) → IsSum count more sum → sum ≤ 2 ^ 32 → sum ≡ count + more
-  sum_is count more sum (inl is) few = is
-  sum_is count more sum (inr both) few = let over = both.0 in absurd (omega (arith, over, few))
+  pub long_listing : 2 ^ 32 < rows_length line_weight rows → IsLongFolder bodies root
+  long_listing over = record { rows = rows; walk = walk; long = inr (inl (let are = lines_are rows in omega (arith, over, are))) }
 
-  module _ (root : Name) (all given : List Row) (row : Row) (rest : List Row) (cut : all ≡ given ++ row ∷ rest) (files listing more_files more_listing : ℕ) (counted : AreCounted given files listing) where
-    -- one of the counts is above the limit
-    pub too_long : IsPathWalk bodies root all → IsSum files (file_length bodies row.entry) more_files → IsSum listing (length (line_of row)) more_listing → (2 ^ 32 < more_files) ⊎ (2 ^ 32 < more_listing) → IsLongFolder bodies root
-    too_long walk f l above = record {
-      rows = all;
-      walk = walk;
-      long =
-          elim above [
-            | inl over ↦
-                inl
-                (sum_above files (file_length bodies row.entry) more_files (files_length bodies all) f over
-                (let is = counted.of_files in let c = files_cut given row rest in let whole = ap (files_length bodies) cut in omega (arith, is, c, whole)))
-            | inr over ↦
-                inr
-                (sum_above listing (length (line_of row)) more_listing (length (listing_text all)) l over
-                (let is = counted.of_listing in let c = lines_cut given row rest in let whole = ap (λ (rs : List Row). length (listing_text rs)) cut in omega (arith, is, c, whole)))
-          ];
-    }
+  -- where it is not long by its rows and not by its files, it is by its listing
+  pub only_listing : IsLongFolder bodies root → (2 ^ 32 < rows_length row_weight rows → ⊥) → (2 ^ 32 < rows_length (file_weight bodies) rows → ⊥) → 2 ^ 32 < rows_length line_weight rows
+  only_listing long few small =
+      let same = one_walk bodies root long.rows rows long.walk walk in
+      let of_rows = rows_are rows in
+      let of_files = files_are bodies rows in
+      let of_lines = lines_are rows in
+      let rows_same = ap (λ (rs : List Row). length rs) same in
+      let files_same = ap (files_length bodies) same in
+      let lines_same = ap (λ (rs : List Row). length (listing_text rs)) same in
+      elim long.long [
+        | inl over ↦ absurd (small (omega (arith, over, of_files, files_same)))
+        | inr other ↦
+            elim other [
+              | inl over ↦ omega (arith, over, of_lines, lines_same)
+              | inr over ↦ absurd (few (omega (arith, over, of_rows, rows_same)))
+            ]
+      ]
 
-  module _ (given : List Row) (row : Row) (files listing more_files more_listing : ℕ) (counted : AreCounted given files listing) where
-    -- both counts are within the limit
-    pub counted_next : IsSum files (file_length bodies row.entry) more_files → IsSum listing (length (line_of row)) more_listing → more_files ≤ 2 ^ 32 → more_listing ≤ 2 ^ 32 → AreCounted (given ++ row ∷ []) more_files more_listing
-    counted_next f l few small = record {
-      of_files = let s = sum_is files (file_length bodies row.entry) more_files f few in let is = counted.of_files in let n = files_next given row in omega (arith, s, is, n);
-      of_listing = let s = sum_is listing (length (line_of row)) more_listing l small in let is = counted.of_listing in let n = lines_next given row in omega (arith, s, is, n);
-    }
+-- ---- the line of a revision of another project
 
-  -- at the end both counts are within the limit
-  pub not_long : (root : Name) (all : List Row) (files listing : ℕ) → IsPathWalk bodies root all → AreCounted all files listing → files ≤ 2 ^ 32 → listing ≤ 2 ^ 32 → IsLongFolder bodies root → ⊥
-  not_long root all files listing walk counted few small long =
-      let same = one_walk bodies root all long.rows walk long.walk in
-      let of_files = counted.of_files ∙ ap (files_length bodies) same in
-      let of_listing = counted.of_listing ∙ ap (λ (rs : List Row). length (listing_text rs)) same in
-      elim long.long [ inl over ↦ omega (arith, over, of_files, few) | inr over ↦ omega (arith, over, of_listing, small) ]
+abbrev mode_by : List ℕ → ℕ → Option Mode
+mode_by id mode =
+    if mode == 100755 then Some Executable else
+    if mode == 120000 then Some Link else
+    if mode == 160000 then Some (Project id) else None
 
-within : (n : ℕ) → (2 ^ 32 < n → ⊥) → n ≤ 2 ^ 32
-within n not = elim (order n) [ inl few ↦ few | inr over ↦ absurd (not over) ]
-  where
-    order : (m : ℕ) → (m ≤ 2 ^ 32) ⊎ (2 ^ 32 < m)
-    order m = by (nat_le m (2 ^ 32)) refl
-      where
-        by : (b : Bool) → nat_le m (2 ^ 32) ≡ b → (m ≤ 2 ^ 32) ⊎ (2 ^ 32 < m)
-        by true e = inl (leb-true m (2 ^ 32) e)
-        by false e = inr (leb-false m (2 ^ 32) e)
+project_is : (e : DirectoryEntry) → e.mode ≡ 160000 → mode_of e ≡ Some (Project e.id)
+project_is e is = ap (mode_by e.id) is
 
--- where neither count is above the limit, both are within it
-pub both_within : (files listing : ℕ) (above : Bool) → IsTrue above ↔ ((2 ^ 32 < files) ⊎ (2 ^ 32 < listing)) → above ≡ false → (files ≤ 2 ^ 32) × (listing ≤ 2 ^ 32)
-both_within files listing above both below = (
-  within files (λ over. let e : true ≡ false = sym (both.1 (inl over)) ∙ below in cc),
-  within listing (λ over. let e : true ≡ false = sym (both.1 (inr over)) ∙ below in cc),
-)
+pub project_length : (id : List ℕ) → length id ≡ 20 → 49 ≡ length (mode_text (Project id)) + 1
+project_length id twenty =
+    let whole = length-append (codes "160000 ") (encode_lower id ++ codes " ") in
+    let rest = length-append (encode_lower id) (codes " ") in
+    let digits = length-encode_with lower_digits id in
+    omega (arith, whole, rest, digits, twenty)
+
+pub project_weight : (e : DirectoryEntry) → e.mode ≡ 160000 → listed_weight (length (mode_text (Project e.id)) + 1) ≡ line_weight e
+project_weight e is = ap mode_weight (sym (project_is e is))

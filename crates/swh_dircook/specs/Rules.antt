@@ -27,11 +27,12 @@ abbrev pub files_length : Bodies → List Row → ℕ
 files_length bodies [] = 0
 files_length bodies (row ∷ rows) = file_length bodies row.entry + files_length bodies rows
 
--- The files under the root together, or their listing, have more than 2 to the 32nd bytes.
+-- The files under the root together, or their listing, have more than 2 to the 32nd bytes, or there are more entries under
+-- the root than that.
 pub record IsLongFolder (bodies : Bodies) (root : Name) : Type 0 where
   pub rows : List Row
   pub walk : IsPathWalk bodies root rows
-  pub long : (2 ^ 32 < files_length bodies rows) ⊎ (2 ^ 32 < length (listing_text rows))
+  pub long : (2 ^ 32 < files_length bodies rows) ⊎ (2 ^ 32 < length (listing_text rows)) ⊎ (2 ^ 32 < length rows)
 
 -- which of the rules a name breaks, where the root is made as a folder, and it is said whether that is too long
 abbrev pub BreaksIn : Bodies → Name → Type 0 → Name → Why → Type 0

@@ -1,5 +1,5 @@
 //! All that is under a directory, made in a yard.
-ghost use Rattle.std.specs.Prelude.{◌≡◌, ◌∷◌, [], List, IfOk, string_bytes};
+ghost use Rattle.std.specs.Prelude.{◌≡◌, ◌<◌, ◌∷◌, [], List, IfOk, OnOk, length, string_bytes};
 ghost use Rattle.swh_carried.specs.Uncarried.{AreCarried};
 ghost use Rattle.swh_graph.specs.Path.{directory_name};
 ghost use Rattle.swh_outside.specs.Causes.{HasOutCause};
@@ -43,7 +43,8 @@ fn make_rows<L: Look, Y: Yard>(
     Ok(())
 }
 
-/// Writes the listing of the entries under a directory, in the order of the walk over its paths. Its last lines may be held.
+/// Writes the listing of the entries under a directory, in the order of the walk over its paths. Its last lines may be held, of
+/// fewer than 65,536 bytes.
 fn write_listing<L: Look, T: Taker>(
     alloc: Global,
     look: &L,
@@ -56,6 +57,7 @@ fn write_listing<L: Look, T: Taker>(
     requires carried { AreCarried (L.children_of look.now) (BreaksInFolder (L.archive look.now).bodies (directory_name directory)) order.now }
     ensures bytes { (rows : List Row) → IsPathWalk (L.archive look.now).bodies (directory_name directory) rows
         → Wrote T.takes T.takes_front (kept taker.old held.old.items) (listing_text rows) (kept taker.new held.new.items) result }
+    ensures few { length held.old.items < 65536 → OnOk result (length held.new.items < 65536) }
     ensures cause { HasOutCause (T.failures taker.old) (T.failures taker.new) result }
 {
     look.is_graph();

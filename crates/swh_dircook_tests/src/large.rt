@@ -95,47 +95,139 @@ fn large_cooked(alloc: Global, more: usize) -> Result<(Result<(), CookFault>, Na
     let mut body = many(alloc, b"40000 ", 32, &inner)?;
     push_entry(&mut body, b"100644 ", b"z", &rest)?;
     let root = added(alloc, &mut shown, Kind::Directory, body)?;
+    Ok((refused_or_begun(alloc, &shown, root)?, root))
+}
+
+/// How the root is cooked into a yard whose first call fails.
+fn refused_or_begun(
+    alloc: Global,
+    shown: &Replayed,
+    root: Name,
+) -> Result<Result<(), CookFault>, Fail> {
     let mut failing = Vec::new(alloc);
     failing.push(0)?;
     let mut yard = MemoryYard::with_room(alloc, 0, failing)?;
-    Ok((cooked(alloc, &shown, root, &mut yard), root))
+    Ok(cooked(alloc, shown, root, &mut yard))
 }
 
-/// The last digit of a number.
-fn digit(number: usize) -> u8 {
-    b'0' + (number % 10) as u8
+/// A directory of two folders, each of the next such directory, and so on for so many levels above one of no entries.
+fn doubled(alloc: Global, shown: &mut Replayed, levels: u8) -> Result<Name, Fail> {
+    let mut last = added(alloc, shown, Kind::Directory, Vec::new(alloc))?;
+    for _ in 0..levels {
+        let body = many(alloc, b"40000 ", 2, &last)?;
+        last = added(alloc, shown, Kind::Directory, body)?;
+    }
+    Ok(last)
 }
 
-/// Appends a number in five digits.
-fn push_number(text: &mut Vec<u8>, number: usize) -> Result<(), AllocError> {
-    text.push(digit(number / 10_000))?;
-    text.push(digit(number / 1_000))?;
-    text.push(digit(number / 100))?;
-    text.push(digit(number / 10))?;
-    text.push(digit(number))?;
+/// How many levels of two folders each stand below two folders of the root, and how many files beside these; and whether that
+/// is refused.
+const ENTRIES: &[(u8, u8, bool)] = &[
+    // 4,294,967,294 entries, and two files.
+    (30, 2, false),
+    (30, 3, true),
+    // 2,199,023,255,550 entries, all of them folders.
+    (39, 0, true),
+];
+
+fn entries_end_so(alloc: Global, row: &(u8, u8, bool)) -> Result<bool, Fail> {
+    let mut shown = Replayed::new(alloc);
+    let empty = added(alloc, &mut shown, Kind::Content, Vec::new(alloc))?;
+    let inner = doubled(alloc, &mut shown, row.0)?;
+    let mut body = many(alloc, b"40000 ", 2, &inner)?;
+    for number in 0..row.1 {
+        push_entry(
+            &mut body,
+            b"100644 ",
+            &letters(number.saturating_add(16)),
+            &empty,
+        )?;
+    }
+    let root = added(alloc, &mut shown, Kind::Directory, body)?;
+    Ok(refused_or_begun(alloc, &shown, root)? == wanted(root, row.2))
+}
+
+/// What the cooking of a directory answers, where it is refused as too long, and where the yard fails.
+fn wanted(root: Name, is_long: bool) -> Result<(), CookFault> {
+    if is_long {
+        return refusal(root, Why::Length);
+    }
+    Err(CookFault::WriteFault)
+}
+
+/// What the names of four folders begin with, and those of the 16,384 programs in each; how many letters follow in the name
+/// of each folder, so that each line has 65,535 bytes.
+const LINES: &[(&[u8], &[u8], usize)] = &[
+    (b"", b"", 65_520),
+    (b"\"", b"", 65_516),
+    (b"", b"\xc3\xa9", 65_510),
+    (b"\"", b"\xc3\xa9", 65_508),
+];
+
+/// Appends the entries of four folders, whose names begin so, and have so many letters and one more.
+fn push_folders(
+    body: &mut Vec<u8>,
+    alloc: Global,
+    row: &(&[u8], &[u8], usize),
+    to: &Name,
+) -> Result<(), AllocError> {
+    for last in b"abcd" {
+        let mut name = Vec::new(alloc);
+        name.extend_from_slice(row.0)?;
+        name.resize(row.0.len().saturating_add(row.2), b'x')?;
+        name.push(*last)?;
+        push_entry(body, b"40000 ", name.as_slice(), to)?;
+    }
     Ok(())
 }
 
-/// How a directory is cooked of 71,566 programs at paths of 60,006 bytes, and one with a name of so many letters, into a yard
-/// whose first call fails; and its name.
-fn listed_cooked(alloc: Global, letters: usize) -> Result<(Result<(), CookFault>, Name), Fail> {
+/// How a directory is cooked whose listing has 65,536 lines of 65,535 bytes, and one of a name with so many letters and 8
+/// bytes more.
+fn lines_end_so(
+    alloc: Global,
+    row: &(&[u8], &[u8], usize),
+    letters_of_last: usize,
+    is_long: bool,
+) -> Result<bool, Fail> {
     let mut shown = Replayed::new(alloc);
     let empty = added(alloc, &mut shown, Kind::Content, Vec::new(alloc))?;
     let mut body = Vec::new(alloc);
-    for number in 0..71_566 {
+    for number in 0..128 {
         let mut name = Vec::new(alloc);
-        push_number(&mut name, number)?;
+        name.extend_from_slice(row.1)?;
+        name.extend_from_slice(&letters(number))?;
         push_entry(&mut body, b"100755 ", name.as_slice(), &empty)?;
     }
+    let programs = added(alloc, &mut shown, Kind::Directory, body)?;
+    let body = many(alloc, b"40000 ", 128, &programs)?;
     let inner = added(alloc, &mut shown, Kind::Directory, body)?;
-    let mut body = long_name(alloc, b"100755 ", letters, &empty)?;
-    let folder = long_name(alloc, b"40000 ", 60_000, &inner)?;
-    body.extend_from_slice(folder.as_slice())?;
+    let mut body = Vec::new(alloc);
+    push_folders(&mut body, alloc, row, &inner)?;
+    let mut last = Vec::new(alloc);
+    last.resize(letters_of_last, b'z')?;
+    push_entry(&mut body, b"100755 ", last.as_slice(), &empty)?;
     let root = added(alloc, &mut shown, Kind::Directory, body)?;
-    let mut failing = Vec::new(alloc);
-    failing.push(0)?;
-    let mut yard = MemoryYard::with_room(alloc, 0, failing)?;
-    Ok((cooked(alloc, &shown, root, &mut yard), root))
+    Ok(refused_or_begun(alloc, &shown, root)? == wanted(root, is_long))
+}
+
+/// The number of the first row that ends in another way, or how many there are.
+fn first_other_entries(alloc: Global) -> Result<usize, Fail> {
+    for (number, row) in ENTRIES.iter().enumerate() {
+        if !entries_end_so(alloc, row)? {
+            return Ok(number);
+        }
+    }
+    Ok(ENTRIES.len())
+}
+
+/// The same of the listings, at the limit and one byte above it.
+fn first_other_lines(alloc: Global) -> Result<usize, Fail> {
+    for (number, row) in LINES.iter().enumerate() {
+        if !lines_end_so(alloc, row, 65_528, false)? || !lines_end_so(alloc, row, 65_529, true)? {
+            return Ok(number);
+        }
+    }
+    Ok(LINES.len())
 }
 
 /// How a directory is cooked whose one entry is itself, as the naming by small sums allows, and its name.
@@ -185,18 +277,15 @@ fn files_together_have_a_limit(rt: HostRuntime) -> Result<(), Fail> {
     Ok(())
 }
 
-/// The lines of the programs are 4,294,961,924 bytes, and that of the last is its name and 8 more.
 #[test]
 fn a_listing_may_have_so_many_bytes(rt: HostRuntime) -> Result<(), Fail> {
-    let (ended, _) = listed_cooked(rt.alloc(), 5_364)?;
-    assert_eq!(rt; ended, Err(CookFault::WriteFault));
+    assert_eq!(rt; first_other_lines(rt.alloc())?, LINES.len());
     Ok(())
 }
 
 #[test]
-fn a_listing_of_one_byte_more_is_too_long(rt: HostRuntime) -> Result<(), Fail> {
-    let (ended, root) = listed_cooked(rt.alloc(), 5_365)?;
-    assert_eq!(rt; ended, refusal(root, Why::Length));
+fn entries_have_a_limit(rt: HostRuntime) -> Result<(), Fail> {
+    assert_eq!(rt; first_other_entries(rt.alloc())?, ENTRIES.len());
     Ok(())
 }
 

@@ -33,6 +33,7 @@ entries-init g c =
           lead_at_first bodies (g.L.Graph.children_of c.args.look.now) c.is_graph.ensures c.args.order.now is.preceded c.args.directory c.in_ok-walk.walk c.in_ok-walk.ensures.ok
           (root_there (g.L.Graph.children_of c.args.look.now) (directory_name c.args.directory) c.args.order.now c.requires.order);
       quiet = refl;
+      few = λ fits. fits;
       written = λ rows walk. (
         [],
         at_first bodies (directory_name c.args.directory) rows c.in_ok-walk.walk c.in_ok-walk.ensures.ok walk,
@@ -100,6 +101,7 @@ entries-preserved g c =
     record {
       leads = (lighter bodies children c.is_graph.ensures c.args.order.now is.preceded c.entries.walk c.next_entry.new.walk entry c.entries.invariant.leads s).1;
       quiet = c.in_ok-settle.ensures.cause.quiet ∙ c.entries.invariant.quiet;
+      few = λ _. c.in_ok-settle.ensures.few;
       written = λ rows walk.
           let so = c.entries.invariant.written rows walk in (
             so.0 ++ row ∷ [],

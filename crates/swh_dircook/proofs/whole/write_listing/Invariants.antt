@@ -1,4 +1,4 @@
-use Rattle.std.proofs.Common.{◌≡◌, length, List}
+use Rattle.std.proofs.Common.{◌≡◌, ◌<◌, length, List}
 use Rattle.swh_graph.specs.Path.{directory_name}
 use Rattle.swh_pathwalk.specs.Tree.{Row, IsPathWalk}
 use Rattle.swh_pathwalk.specs.Weight.{coming_weight, LeadInto}
@@ -11,6 +11,7 @@ abbrev pub invariant-entries : goal.invariant-entries
 invariant-entries g l = record {
   leads : LeadInto l.order l.walk.levels;
   quiet : g.T.Taker.failures l.taker ≡ g.T.Taker.failures l.initial.taker;
+  few : length l.initial.held.items < 65536 → length l.held.items < 65536;
   written :
       (rows : List Row) → IsPathWalk (g.L.Look.archive l.look).bodies (directory_name l.fn.directory) rows
       → (given : List Row) × IsAt (g.L.Look.archive l.look).bodies rows given l.walk.levels
