@@ -182,6 +182,59 @@ on\"}},\"id\":\"fb2787a7c782f6f9382b68e4e10fb315bb7b8354\"}\n",
     },
     Spelled {
         case: Case {
+            name: "2,000 entries and one",
+            setting: Setting {
+                input: Some(&[
+                    Piece::Text(
+                        b"commit refs/heads/m\ncommitter A <a@e.org> 1000000000 +0000\ndata 0\n",
+                    ),
+                    Piece::Rows {
+                        count: 2_000,
+                        before: b"M 100644 inline ",
+                        fill: 0,
+                        after: b"\ndata 1\nx\n",
+                    },
+                    Piece::Text(b"M 100644 inline z\ndata 1\nx\n"),
+                ]),
+                ..LOADING
+            },
+            runs: &[
+                INIT,
+                LOAD,
+                &[
+                    "ask",
+                    "A",
+                    "/api/1/directory/fdb07aee636ca2a8054f008a2786a6c81cc4cc35/",
+                ],
+            ],
+            statuses: &[0, 0, 0],
+            printed: b"",
+            leaves: None,
+        },
+        words: &[],
+        times: 0,
+        status: 0,
+        printed: &[
+            Piece::Text(
+                b"made\n\
+https://e.org/p\t1\tfull\tswh:1:snp:c84749c6e433f9add637cb4d38ffa50ba21e74a9\n\
+200 196094\n\
+[",
+            ),
+            Piece::Rows {
+                count: 2_000,
+                before: b"{\"name\":\"",
+                fill: 0,
+                after: b"\",\"perms\":33188,\"target\":\"c1b0730e0133447badcfd47fd144e254807b06e1\",\"type\":\"file\"},",
+            },
+            Piece::Text(
+                b"{\"name\":\"z\",\"perms\":33188,\"target\":\"c1b0730e0133447badcfd47fd144e254807b06e1\",\"type\":\"fi\
+le\"}]\n",
+            ),
+        ],
+    },
+    Spelled {
+        case: Case {
             name: "an origin of 2,048 bytes, with four visits, and one of 2,049",
             setting: Setting {
                 jobs: Some(&[
