@@ -4,7 +4,7 @@
 //! window above the limit is taken, and no more than one byte by the reader that reserves; a fault says which limit or
 //! count; a path is the one that its text spells, none where it spells none, and told to be too long before either; each
 //! line, and the data after one, are the next in the stream, in whatever pieces the source gives them, and each end of
-//! reading is told by its case.
+//! reading is told by its case; a count of faults rises only where the answer is that the source failed.
 #![tactic(auto)]
 
 mod counted;

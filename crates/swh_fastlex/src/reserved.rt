@@ -1,6 +1,7 @@
 // Sources read into a buffer whose room is reserved.
 ghost use Rattle.std.specs.Prelude.{◌≡◌, ◌+◌, ◌≤◌, ◌<◌, IfOk, IsErrOf, OnOk, length, vec_capacity};
 ghost use Rattle.swh_outside.specs.Faults.{Rose};
+ghost use Rattle.swh_fastlex.specs.ReadOn.{IsQuietBut};
 ghost use Rattle.swh_fastlex.specs.Whole.{IsAllThatWasLeft, IsCutAbove, GivesAtMost};
 ghost use Rattle.swh_fastlex.specs.declared.fault.SourceFault.TheVariants.{Failed, Limit};
 
@@ -60,6 +61,7 @@ pub fn read_source_reserved<S: Source>(
 
     ensures same_path { S.path source.new ≡ S.path source.old }
     ensures later { S.faults source.old ≤ S.faults source.new }
+    ensures quiet { IsQuietBut (S.faults source.old) (S.faults source.new) Failed result }
     ensures cause { IsErrOf result Failed → Rose (S.faults source.old) (S.faults source.new) }
 {
     let mut bytes = Vec::new(alloc);

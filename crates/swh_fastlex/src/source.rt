@@ -1,6 +1,7 @@
 // Sources read a window at a time.
 ghost use Rattle.std.specs.Prelude.{◌≡◌, ◌≢◌, ◌+◌, ◌≤◌, ◌<◌, IfOk, IfErr, IsErrOf, length, vec_len};
 ghost use Rattle.swh_outside.specs.Faults.{Rose};
+ghost use Rattle.swh_fastlex.specs.ReadOn.{IsQuietBut};
 ghost use Rattle.swh_fastlex.specs.Whole.{IsAllThatWasLeft, IsFront, IsCutAbove, GivesAtMost, TakesMore};
 ghost use Rattle.swh_fastlex.specs.declared.fault.SourceFault.TheVariants.{Failed, Limit};
 
@@ -34,6 +35,7 @@ pub fn get_more<S: Source>(
 
     ensures same_path { S.path source.new ≡ S.path source.old }
     ensures later { S.faults source.old ≤ S.faults source.new }
+    ensures quiet { IsQuietBut (S.faults source.old) (S.faults source.new) Failed result }
     ensures not_limit { IfErr result (λ fault. fault ≢ Limit) }
     ensures cause { IsErrOf result Failed → Rose (S.faults source.old) (S.faults source.new) }
 {
@@ -59,6 +61,7 @@ pub fn read_front<S: Source>(
 
     ensures same_path { S.path source.new ≡ S.path source.old }
     ensures later { S.faults source.old ≤ S.faults source.new }
+    ensures quiet { IsQuietBut (S.faults source.old) (S.faults source.new) Failed result }
     ensures not_limit { IfErr result (λ fault. fault ≢ Limit) }
     ensures cause { IsErrOf result Failed → Rose (S.faults source.old) (S.faults source.new) }
 {
@@ -93,6 +96,7 @@ pub fn read_source<S: Source>(
 
     ensures same_path { S.path source.new ≡ S.path source.old }
     ensures later { S.faults source.old ≤ S.faults source.new }
+    ensures quiet { IsQuietBut (S.faults source.old) (S.faults source.new) Failed result }
     ensures cause { IsErrOf result Failed → Rose (S.faults source.old) (S.faults source.new) }
 {
     let bytes = read_front(alloc, source, limit)?;

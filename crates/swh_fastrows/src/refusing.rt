@@ -69,6 +69,7 @@ pub fn refusal<S: Source>(rows: &mut RowReader<S>) -> ReadFail
 
     ensures same_path { rows.new.path ≡ rows.old.path }
     ensures later { rows.old.faults ≤ rows.new.faults }
+    ensures quiet { (result ≡ SourceFailed → ⊥) → rows.new.faults ≡ rows.old.faults }
     ensures cause { result ≡ SourceFailed → Rose rows.old.faults rows.new.faults }
 {
     match peek(rows) {

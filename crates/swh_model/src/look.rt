@@ -1,6 +1,6 @@
 //! What is shown of an archive.
 ghost use Rattle.std.specs.Prelude.{◌≡◌, ◌↔◌, None, Some, IsTrue, IfSome, IfNone};
-ghost use Rattle.swh_model.specs.Archive.{Archive, body_of, visits_of, IsHeld, IsGraphOf};
+ghost use Rattle.swh_model.specs.Archive.{Archive, AreAllOfBytes, body_of, visits_of, IsHeld, IsGraphOf};
 
 use crate::event::Visit;
 use swh_base::{Graph, Name, Shared};
@@ -26,4 +26,8 @@ pub trait Look: Graph {
     /// The graph is that of the archive's bodies.
     fn is_graph(&self)
         ensures { IsGraphOf (archive self.now).bodies (Self.children_of self.now) };
+
+    /// The bodies are made of bytes. None of them is read.
+    fn is_of_bytes(&self)
+        ensures { AreAllOfBytes (archive self.now).bodies };
 }

@@ -39,4 +39,8 @@ impl Look for Replayed {
     fn is_graph(&self) {
         self.store.is_graph();
     }
+
+    fn is_of_bytes(&self) {
+        self.store.is_of_bytes();
+    }
 }

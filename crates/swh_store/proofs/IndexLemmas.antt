@@ -11,11 +11,11 @@ use Rattle.std.proofs.Math.Seq.{get_or-append_seam}
 use Rattle.std.proofs.lemmas.List.{get_or_append_left, get_or_default, get_or-take, length-append, length-take-le}
 use Rattle.swh_base.specs.declared.name.Name.{Name}
 use Rattle.swh_base.specs.declared.entry.Entry.{Entry}
-use Rattle.swh_base.specs.Name.{name_key, name_cmp, name_cmp_total, name_cmp-IsAntisymmetric}
+use Rattle.swh_base.specs.Name.{IsByte, name_key, name_cmp, name_cmp_total, name_cmp-IsAntisymmetric}
 use Rattle.swh_base.specs.Manifest.{AreChildren}
-use Rattle.swh_model.specs.Archive.{Bodies, body_of, IsGraphOf}
+use Rattle.swh_model.specs.Archive.{AreAllOfBytes, Bodies, body_of, IsGraphOf}
 use Rattle.swh_model.specs.Step.{HasItsChildren, AreNew, added}
-use Rattle.swh_model.proofs.Maps.{body-put, body_cases}
+use Rattle.swh_model.proofs.Maps.{added-all, body-put, body_cases}
 use Rattle.swh_model.proofs.Entries.{NoneNamed, none_named, none-empty, added-append, new-at}
 use Rattle.swh_store.specs.Stored.{Children, IsEntryOf, children_in}
 use Rattle.swh_store.specs.Entries.{keys_cmp, bodies_in, with_children, stored_in, StandsAt, IsNamed, IsFound}
@@ -254,6 +254,10 @@ graph_is es good new =
   where
     same_kids : (a b : List Name) → Some a ≡ Some b → a ≡ b
     same_kids a b e = cc
+
+-- bodies of entries that are made of bytes are
+pub bytes_in : (es : List Entry) → AllByRecursion (λ e. AllByRecursion IsByte e.body) es → AreAllOfBytes (bodies_in es)
+bytes_in es bytes = added-all (λ n body. AllByRecursion IsByte body) finite.empty es (λ n body is. absurd (let never : None ≡ Some body = sym (none-empty n) ∙ is in cc)) bytes
 
 -- ---- how many there are
 

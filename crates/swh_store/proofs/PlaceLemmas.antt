@@ -10,11 +10,11 @@ use Rattle.swh_base.specs.declared.entry.Entry.{Entry}
 use Rattle.swh_base.specs.Name.{name_key}
 use Rattle.swh_model.specs.Archive.{body_of}
 use Rattle.swh_model.specs.Step.{HasItsChildren, AreNew}
-use Rattle.swh_model.proofs.Entries.{none-empty, new-push}
+use Rattle.swh_model.proofs.Entries.{all-append, none-empty, new-push}
 use Rattle.swh_model.proofs.PlainLists.{take-more}
 use Rattle.swh_store.specs.declared.places.Places.{Places}
 use Rattle.swh_store.specs.Entries.{bodies_in, IsNamed, IsFound}
-use Rattle.swh_store.specs.Places.{number_of, slot_of, mark_at, mark_behind, other_at, NoneLeads, AreTaken, IsNowhere, IsLedFirst, IsPlaced, IsPut, MarksStay, StaysPut}
+use Rattle.swh_store.specs.Places.{HasBytes, number_of, slot_of, mark_at, mark_behind, other_at, NoneLeads, AreTaken, IsNowhere, IsLedFirst, IsPlaced, IsPut, MarksStay, StaysPut}
 use Rattle.swh_store.proofs.IndexLemmas.{at, same_key, key_itself, apart-by_key, body-other, finds-more, finds-last, finds-fewer, new_front, new-last, named_held, as_named, three_ways}
 
 -- a name is this one, or it is not
@@ -32,6 +32,10 @@ good-push (x ∷ es) e h good = (h.0, good-push es e h.1 good)
 good_front : (es : List Entry) (e : Entry) → AllByRecursion HasItsChildren (es ++ e ∷ []) → AllByRecursion HasItsChildren es
 good_front [] e h = tt
 good_front (x ∷ es) e h = (h.0, good_front es e h.1)
+
+bytes_front : (es : List Entry) (e : Entry) → AllByRecursion HasBytes (es ++ e ∷ []) → AllByRecursion HasBytes es
+bytes_front [] e h = tt
+bytes_front (x ∷ es) e h = (h.0, bytes_front es e h.1)
 
 -- ---- an entry that has a name
 
@@ -120,6 +124,7 @@ pub placed-none : (places : Places) → ((n : Name) → other_at places n ≡ No
 placed-none places none =
     record {
       good = tt;
+      of_bytes = tt;
       new = tt;
       free = λ n _. none-empty n;
       rest = λ n _. subst (IsFound [] n) (sym (none n)) (none-empty n);
@@ -129,16 +134,18 @@ pub placed-stay : (old new : Places) (es : List Entry) → StaysPut old new → 
 placed-stay old new es stay placed =
     record {
       good = placed.good;
+      of_bytes = placed.of_bytes;
       new = placed.new;
       free = λ n is. placed.free n (nowhere-before old.slots.items new.slots.items es n stay.marks is);
       rest = λ n not. subst (IsFound es n) (sym (stay.others n)) (placed.rest n (none-before old.slots.items new.slots.items es n 4 stay.marks not));
     }
 
 -- one entry more, whose name was led to its place
-pub placed-push : (old new : Places) (es : List Entry) (e : Entry) → IsPlaced old es → IsPut old new e.name (length es) → HasItsChildren e → body_of (bodies_in es) e.name ≡ None → IsPlaced new (es ++ e ∷ [])
-placed-push old new es e placed put good absent =
+pub placed-push : (old new : Places) (es : List Entry) (e : Entry) → IsPlaced old es → IsPut old new e.name (length es) → HasItsChildren e → HasBytes e → body_of (bodies_in es) e.name ≡ None → IsPlaced new (es ++ e ∷ [])
+placed-push old new es e placed put good bytes absent =
     record {
       good = good-push es e placed.good good;
+      of_bytes = all-append HasBytes es (e ∷ []) placed.of_bytes (bytes, tt);
       new = new-push finite.empty es e placed.new absent;
       free = λ n is. body-other es e n (apart n is) ∙ placed.free n (nowhere-before old.slots.items new.slots.items es n put.marks (is.0, is.1, is.2, none-fewer new.slots.items es e n is.0 is.3));
       rest = λ n not. by_name n not (same_or_apart n e.name);
@@ -176,6 +183,7 @@ pub placed-pop : (old new : Places) (es : List Entry) (e : Entry) → IsPlaced o
 placed-pop old new es e placed same_slots forgot =
     record {
       good = good_front es e placed.good;
+      of_bytes = bytes_front es e placed.of_bytes;
       new = new_front finite.empty es (e ∷ []) placed.new;
       free = λ n is. by_name n (body_of (bodies_in es) n ≡ None) (λ same. absent n same)
           (λ other. sym (body-other es e n other) ∙ placed.free n (nowhere-more n other (subst (λ (slots : List ℕ). IsNowhere slots es n) same_slots is)));
@@ -224,9 +232,9 @@ found_twice es place e (Some k) less is some found newer =
     let all : AreNew finite.empty (take place es ++ e ∷ []) = subst (AreNew finite.empty) (take-more es place e less is) newer in
     named_held (take place es) e.name k (new_front finite.empty (take place es) (e ∷ []) all) (as_named (take place es) e.name k found) (new-last finite.empty (take place es) e all)
 
-pub placed-next : (old new : Places) (es : List Entry) (place : ℕ) (e : Entry) (o : Option ℕ) → place < length es → e ≡ get_or es place e → AllByRecursion HasItsChildren es → is_some o ≡ false → IsFound (take place es) e.name o
+pub placed-next : (old new : Places) (es : List Entry) (place : ℕ) (e : Entry) (o : Option ℕ) → place < length es → e ≡ get_or es place e → AllByRecursion HasItsChildren es → HasBytes e → is_some o ≡ false → IsFound (take place es) e.name o
     → IsPlaced old (take place es) → IsPut old new e.name place → IsPlaced new (take (place + 1) es)
-placed-next old new es place e (Some k) less is good none found placed put = absurd (let never : true ≡ false = none in cc)
-placed-next old new es place e None less is good none found placed put =
+placed-next old new es place e (Some k) less is good bytes none found placed put = absurd (let never : true ≡ false = none in cc)
+placed-next old new es place e None less is good bytes none found placed put =
     subst (IsPlaced new) (sym (take-more es place e less is))
-    (placed-push old new (take place es) e placed (subst (IsPut old new e.name) (sym (length-take-le place es (omega (arith, less)))) put) (good_at es place e less is good) found)
+    (placed-push old new (take place es) e placed (subst (IsPut old new e.name) (sym (length-take-le place es (omega (arith, less)))) put) (good_at es place e less is good) bytes found)

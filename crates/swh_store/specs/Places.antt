@@ -6,7 +6,7 @@ use Rattle.std.specs.BTreeMap.{get}
 use Rattle.std.specs.FinMap as finite
 use Rattle.swh_base.specs.declared.name.Name.{Name}
 use Rattle.swh_base.specs.declared.entry.Entry.{Entry}
-use Rattle.swh_base.specs.Name.{name_key}
+use Rattle.swh_base.specs.Name.{IsByte, name_key}
 use Rattle.swh_model.specs.Archive.{body_of}
 use Rattle.swh_model.specs.Step.{HasItsChildren, AreNew}
 use Rattle.swh_store.specs.Entries.{keys_cmp, bodies_in, IsNamed, IsFound}
@@ -64,10 +64,15 @@ IsLedFirst slots n place = (step : ℕ) × (step < 4) × (mark_behind slots n st
 abbrev pub other_at : Places → Name → Option ℕ
 other_at places n = get keys_cmp places.others (name_key n)
 
--- No two entries have one name. Where a slot of a name is free, and none before it leads to an entry of the name, there is no
+-- The entry's body is made of bytes, as all is that lies in memory.
+abbrev pub HasBytes : Entry → Type 0
+HasBytes e = AllByRecursion IsByte e.body
+
+-- No two entries have one name, and their bodies are made of bytes. Where a slot of a name is free, and none before it leads to an entry of the name, there is no
 -- such entry; and where none of its slots leads to one, the map says where it is.
 pub record IsPlaced (places : Places) (es : List Entry) : Type 0 where
   pub good : AllByRecursion HasItsChildren es
+  pub of_bytes : AllByRecursion HasBytes es
   pub new : AreNew finite.empty es
   pub free : (n : Name) → IsNowhere places.slots.items es n → body_of (bodies_in es) n ≡ None
   pub rest : (n : Name) → NoneLeads places.slots.items es n 4 → IsFound es n (other_at places n)

@@ -1,5 +1,5 @@
 //! Entries in the order of their adding, and the place of each by its name's key.
-use crate::places::Places;
+use crate::places::{Places, has_bytes};
 use std::alloc::Global;
 use swh_base::{Entry, Memory, Name};
 
@@ -50,6 +50,7 @@ impl Held {
         ensures ok { OnOk result (self.new.entries.items ≡ self.old.entries.items ++ entry ∷ []) }
         ensures err { OnErr result (self.new.entries.items ≡ self.old.entries.items) }
     {
+        has_bytes(&entry);
         self.entries.reserve(1)?;
         self.places.add(self.entries.as_slice(), &entry.name)?;
         self.entries.push_reserved(entry);

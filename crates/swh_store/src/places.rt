@@ -2,11 +2,13 @@
 ghost use Rattle.std.specs.Prelude.{◌≡◌, ◌↔◌, ◌≤◌, ◌∷◌, ◌++◌, [], List, IsTrue, IsFalse, None, length, take, IfOk, OnOk, OnErr};
 ghost use Rattle.std.specs.List.{AllByRecursion};
 ghost use Rattle.swh_base.specs.declared.entry.Entry.{Entry};
+ghost use Rattle.swh_base.specs.Name.{IsByte};
 ghost use Rattle.swh_model.specs.Archive.{body_of};
 ghost use Rattle.swh_model.specs.Step.{HasItsChildren};
 ghost use Rattle.swh_store.specs.Entries.{bodies_in, IsFound, IsNamed};
 ghost use Rattle.swh_store.specs.Front.{AreFresh};
 ghost use Rattle.swh_store.specs.Places.{
+  HasBytes,
   number_of,
   slot_of,
   mark_at,
@@ -224,8 +226,8 @@ impl Places {
     /// Leads the name of one entry more, which none of these has, to the place behind them.
     pub fn add(&mut self, entries: &[Entry], name: &Name) -> Result<(), Memory>
         requires { IsPlaced self.old entries.now }
-        ensures ok { OnOk result ((e : Entry) → e.name ≡ name.now → HasItsChildren e → body_of (bodies_in entries.now) e.name ≡ None
-            → IsPlaced self.new (entries.now ++ e ∷ [])) }
+        ensures ok { OnOk result ((e : Entry) → e.name ≡ name.now → HasItsChildren e → HasBytes e
+            → body_of (bodies_in entries.now) e.name ≡ None → IsPlaced self.new (entries.now ++ e ∷ [])) }
         ensures err { OnErr result (IsPlaced self.new entries.now) }
     {
         self.make_room(entries)?;
@@ -240,6 +242,18 @@ impl Places {
     }
 }
 
+/// What lies in memory is made of bytes.
+fn are_bytes(bytes: &[u8])
+    ensures { AllByRecursion IsByte bytes.now }
+{}
+
+/// Knows of an entry that its body is made of bytes: it lies in memory. None of them is read.
+pub fn has_bytes(entry: &Entry)
+    ensures { HasBytes entry.now }
+{
+    are_bytes(entry.body.as_slice());
+}
+
 /// The places of the entries in front of the first whose name an earlier one has, and how many these are.
 pub fn places_of(alloc: Global, entries: &[Entry]) -> Result<(Places, usize), Memory>
     requires { AllByRecursion HasItsChildren entries.now }
@@ -252,6 +266,7 @@ pub fn places_of(alloc: Global, entries: &[Entry]) -> Result<(Places, usize), Me
         if places.find(&entries[..place], name).is_some() {
             return Ok((places, place));
         }
+        has_bytes(&entries[place]);
         places.put(name, place)?;
     }
     Ok((places, entries.len()))

@@ -33,7 +33,7 @@ impl Store {
     ghost use Rattle.std.specs.List.{AllByRecursion};
     ghost use Rattle.std.specs.FinMap as finite;
     ghost use Rattle.swh_base.specs.declared.name.Name.{Name};
-    ghost use Rattle.swh_model.specs.Archive.{body_of, IsHeld, IsGraphOf};
+    ghost use Rattle.swh_model.specs.Archive.{AreAllOfBytes, body_of, IsHeld, IsGraphOf};
     ghost use Rattle.swh_model.specs.Step.{HasItsChildren, AreNew, added};
     ghost use Rattle.swh_model.specs.Judge.{not_held, Collides};
     ghost use Rattle.swh_store.specs.Stored.{IsEntryOf, children_in, empty_store};
@@ -104,6 +104,13 @@ impl Store {
     /// The graph of a store is that of its bodies.
     pub fn is_graph(&self)
         ensures { IsGraphOf self.now.bodies (children_in self.now) }
+    {
+        let _count = self.held.entries.len();
+    }
+
+    /// The bodies are made of bytes. None of them is read.
+    pub fn is_of_bytes(&self)
+        ensures { AreAllOfBytes self.now.bodies }
     {
         let _count = self.held.entries.len();
     }

@@ -58,5 +58,5 @@ lines-preserved g c =
       counted = omega (arith, counted, long, c.lines.invariant.counted);
       within = omega (arith, long, c.if-len-limit.false, c.len.ensures, c.len-in-lines.ensures, c.lines.invariant.within);
       same_path = c.in_ok-line.ensures.on.same_path ∙ c.lines.invariant.same_path;
-      quiet = c.in_ok-line.ensures.on.quiet ∙ c.lines.invariant.quiet;
+      quiet = c.in_ok-line.ensures.on.quiet (λ h. cc) ∙ c.lines.invariant.quiet;
     }

@@ -6,7 +6,7 @@ invariant-rounds g l = record {
   so_far : g.S.Source.tells → g.S.Source.left l.fn.source ≡ l.bytes.items ++ g.S.Source.left l.source;
   gave : g.S.Source.tells → g.S.Source.given l.source ≡ g.S.Source.given l.fn.source ++ l.bytes.items;
   same_path : g.S.Source.path l.source ≡ g.S.Source.path l.fn.source;
-  later : g.S.Source.faults l.fn.source ≤ g.S.Source.faults l.source;
+  quiet : g.S.Source.faults l.source ≡ g.S.Source.faults l.fn.source;
   room : 65536 ≤ vec_len l.window;
   within : length l.bytes.items ≤ l.limit + 1;
 }

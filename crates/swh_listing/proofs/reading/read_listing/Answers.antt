@@ -20,7 +20,7 @@ lines-preserved g c =
       within = within;
       count = omega (arith, c.in_ok-push.ensures.len, onward, c.lines.invariant.count);
       same_path = next.on.same_path ∙ c.lines.invariant.same_path;
-      quiet = next.on.quiet ∙ c.lines.invariant.quiet;
+      quiet = next.on.quiet (λ h. cc) ∙ c.lines.invariant.quiet;
     }
 
 pub returns-clause-whole : goal.returns-clause-whole

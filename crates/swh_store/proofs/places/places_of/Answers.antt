@@ -1,7 +1,8 @@
 use Rattle.std.proofs.Common.{sym, ◌∙◌, take, subst, arith}
+use Rattle.std.proofs.lemmas.List.{get_or_default}
 use Rattle.swh_base.specs.declared.entry.Entry.{Entry}
 use Rattle.swh_store.specs.Entries.{IsFound}
-use Rattle.swh_store.specs.Places.{IsPut}
+use Rattle.swh_store.specs.Places.{HasBytes, IsPut}
 use Rattle.swh_store.proofs.Fronts.{fresh_before}
 use Rattle.swh_store.proofs.PlaceLemmas.{found_twice, placed-next}
 use Rattle.swh_store.proofs.places.places_of.Goals as goal
@@ -22,6 +23,8 @@ loop-place-preserved c =
     let place = c.loop-place.place in
     let is = c.index-entries-place.is in
     let found = subst (λ (e : Entry). IsFound (take place es) e.name c.find.result) (sym is) c.find.ensures in
+    let again = c.index-entries-place-in-loop-place in
+    let bytes = subst HasBytes (again.is ∙ get_or_default es place again.result c.index-entries-place.result c.loop-place-test.true ∙ sym is) c.has_bytes.ensures in
     let put = subst (λ (e : Entry). IsPut c.loop-place.places c.put.new.self e.name place) (sym is) c.in_ok-put.ensures.ok in
-    placed-next c.loop-place.places c.put.new.self es place c.index-entries-place.result c.find.result c.loop-place-test.true is c.requires
+    placed-next c.loop-place.places c.put.new.self es place c.index-entries-place.result c.find.result c.loop-place-test.true is c.requires bytes
     (sym c.is_some.ensures ∙ c.if-is_some.false) found c.loop-place.invariant put

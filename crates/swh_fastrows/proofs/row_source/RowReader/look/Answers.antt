@@ -15,5 +15,5 @@ comments-preserved g c =
       took = λ told. took_append c.args.self.now c.comments.self c.take.new.self [] [] (c.comments.invariant.took told) (subst (λ (p : Place). Took c.comments.self p []) (sym c.take.ensures) (skipped c.comments.self c.hold.new.self c.line.result.now (c.in_ok-ahead.ensures.kept told) c.in_ok-ahead.ensures.same_place c.line.ensures ahead.0 ahead.1 ahead.2 comment));
       onward = omega (arith, at, c.comments.invariant.onward, c.in_ok-ahead.ensures.onward);
       same_path = ap (λ (p : Place). p.path) c.take.ensures ∙ c.in_ok-ahead.ensures.on.same_path ∙ c.comments.invariant.same_path;
-      quiet = faults ∙ c.in_ok-ahead.ensures.on.quiet ∙ c.comments.invariant.quiet;
+      quiet = faults ∙ c.in_ok-ahead.ensures.on.quiet (λ h. cc) ∙ c.comments.invariant.quiet;
     }
