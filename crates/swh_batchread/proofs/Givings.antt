@@ -1,8 +1,7 @@
 -- A batch of which some objects were given.
-use Rattle.std.proofs.Common.{◌≡◌, ◌⊎◌, ℕ, ◌+◌, ◌<◌, ◌≤◌, inl, inr, List, [], ◌∷◌, ◌++◌, map, Contains, refl, sym, ap, ◌∙◌, subst, arith}
-use Rattle.std.specs.List.{AllByRecursion}
+use Rattle.std.proofs.Common.{◌≡◌, ℕ, ◌≤◌, inl, inr, List, [], ◌∷◌, ◌++◌, map, Contains, refl, sym, ap, ◌∙◌, subst, arith}
 use Rattle.std.proofs.lemmas.List.{append-nil, map-append}
-use Rattle.std.proofs.lemmas.List.Elements.{Contains-append_left, Contains-push}
+use Rattle.std.proofs.lemmas.List.Elements.{Contains-append_left}
 use Rattle.swh_base.specs.declared.entry.Entry.{Entry}
 use Rattle.swh_base.specs.declared.kind.Kind.{Kind}
 use Rattle.swh_base.proofs.ItemTexts.{items_on}
@@ -11,15 +10,14 @@ use Rattle.swh_object.specs.Object.{IsObject}
 use Rattle.swh_model.specs.Meaning.{Made}
 use Rattle.swh_fastlex.specs.Line.{Held, unread, IsAtEnd}
 use Rattle.swh_made.specs.Making.{made, made_from}
-use Rattle.swh_made.proofs.Elements.{all_push, first_or_later, none_is}
+use Rattle.swh_made.proofs.Elements.{all_push}
 use Rattle.swh_batchread.specs.declared.fault.BatchFault.{BatchFault}
-use Rattle.swh_batchread.specs.declared.names.Known.{Known}
 use Rattle.swh_batchread.specs.Batch.{Given, IsGiven, KeepsFirst, MeansObjects, given_text, batch_text, input_limit}
 use Rattle.swh_batchread.specs.BatchFault.{BreaksBatch, BreaksHere, ExplainsBatch, MayBreakBatch}
 use Rattle.swh_batchread.specs.Failing.{Fails}
 use Rattle.swh_batchread.specs.Giving.{AreAllOf, BatchState, GivesFirst, GoesOn, HasGiven, IsAtStart, IsPart}
-use Rattle.swh_batchread.specs.Parts.{HasRead, Keeps, TakesObject}
-use Rattle.swh_batchread.specs.RefSteps.{KnowsObjects}
+use Rattle.swh_batchread.specs.Parts.{TakesObject}
+use Rattle.swh_batchread.specs.RefSteps.{Knowing, KnowsObjects}
 use Rattle.swh_batchread.proofs.Breaking.{fails_as}
 use Rattle.swh_batchread.proofs.Reaching.{read_more}
 use Rattle.swh_batchread.proofs.Unique.{one_given, given_not_nil}
@@ -51,7 +49,7 @@ module _ (id : Kind → List ℕ → List ℕ) where
   -- ## Parts
 
   -- a new object is a part
-  pub part_new : (given : List Entry) (o : Entry) (part : List Entry) (old new : List Made) (known known_new : Known) → HasGiven id given old known → IsObject id o → part ≡ o ∷ [] → (Contains old (made_from o) → ⊥) → new ≡ old ++ made_from o ∷ [] → KnowsObjects (given ++ o ∷ []) known_new → IsPart id given (made_from o) part new known_new
+  pub part_new : (given : List Entry) (o : Entry) (part : List Entry) (old new : List Made) (known known_new : Knowing) → HasGiven id given old known → IsObject id o → part ≡ o ∷ [] → (Contains old (made_from o) → ⊥) → new ≡ old ++ made_from o ∷ [] → KnowsObjects (given ++ o ∷ []) known_new → IsPart id given (made_from o) part new known_new
   part_new given o part old new known known_new has object is none more knows =
       let whole : made (given ++ o ∷ []) ≡ made given ++ made_from o ∷ [] = map-append made_from given (o ∷ []) in
       subst (λ (p : List Entry). IsPart id given (made_from o) p new known_new) (sym is)
@@ -65,7 +63,7 @@ module _ (id : Kind → List ℕ → List ℕ) where
       })
 
   -- an object that was given is none
-  pub part_known : (given : List Entry) (m : Made) (part : List Entry) (old new : List Made) (known : Known) → HasGiven id given old known → part ≡ [] → Contains old m → new ≡ old → IsPart id given m part new known
+  pub part_known : (given : List Entry) (m : Made) (part : List Entry) (old new : List Made) (known : Knowing) → HasGiven id given old known → part ≡ [] → Contains old m → new ≡ old → IsPart id given m part new known
   part_known given m part old new known has is met same =
       let none : given ++ part ≡ given = ap (λ (p : List Entry). given ++ p) is ∙ append-nil given in
       record {
@@ -76,7 +74,22 @@ module _ (id : Kind → List ℕ → List ℕ) where
 module _ {S : Type 0} (id : Kind → List ℕ → List ℕ) (sources : Sources S) (source refs : S) where
   -- Nothing was read.
   pub stands_first : (s : BatchState) → IsAtStart id s → GoesOn id sources source refs [] s source refs
-  stands_first s h = ?
+  stands_first s h = record {
+    are = h.are;
+    place = omega (arith, h.first);
+    read = λ told. record {
+      given = [];
+      reaches = record {
+        are = record { each = tt; within = omega arith };
+        cut = sym (ap (λ (t : List ℕ). t ++ sources.left source) h.empty);
+        here = h.first;
+      };
+      keeps = refl;
+    };
+    same_path = refl;
+    quiet = refl;
+    same_refs = refl;
+  }
 
   -- The batch goes on behind a part.
   pub goes_more : (given part : List Entry) (s new : BatchState) (now after others : S) (m : Made) → GoesOn id sources source refs given s now others → IsPart id given m part new.kept new.known → new.held.place ≤ input_limit
@@ -91,7 +104,7 @@ module _ {S : Type 0} (id : Kind → List ℕ → List ℕ) (sources : Sources S
   }
 
   -- All objects were given.
-  pub all_given : (given : List Entry) (s : BatchState) (now others : S) (held : Held) (after : S) → GoesOn id sources source refs given s now others → (sources.tells → IsAtEnd s.held held (sources.left now) (sources.left after)) → AreAllOf id sources source given
+  pub all_given : (given : List Entry) (s : BatchState) (now others : S) (held : Held) (after : S) → GoesOn id sources source refs given s now others → (sources.tells → IsAtEnd s.held held (sources.left now) (sources.left after)) → AreAllOf id sources source refs given
   all_given given s now others held after h ends = record {
     means = λ told.
         let read = h.read told in

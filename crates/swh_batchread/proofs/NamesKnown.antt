@@ -1,6 +1,6 @@
 -- Names that are known, and what is named and is none of them.
 use Rattle.std.specs.Prelude.{is_some, IsSome, ◌↔◌}
-use Rattle.std.proofs.Common.{◌≡◌, ◌⊎◌, inl, inr, ℕ, zero, suc, ◌+◌, ◌<◌, Bool, true, false, cond, Option, Some, None, List, [], ◌∷◌, ◌++◌, length, get_or, take, drop, Contains, refl, sym, ap, ◌∙◌, subst, arith, append_assoc}
+use Rattle.std.proofs.Common.{◌≡◌, ◌⊎◌, inl, inr, ℕ, zero, suc, ◌+◌, ◌<◌, Bool, true, false, cond, Option, Some, None, List, [], ◌∷◌, ◌++◌, length, get_or, take, drop, Contains, refl, sym, ap, ◌∙◌, subst, arith}
 use Rattle.std.specs.declared.cmp.Ordering.{Ordering}
 use Rattle.std.specs.declared.cmp.Ordering.TheVariants.{Less, Equal, Greater}
 use Rattle.std.specs.Ordering.{nat_cmp, is_eq, ordering_reverse}
@@ -19,7 +19,7 @@ use Rattle.swh_batchread.specs.declared.names.Known.{Known}
 use Rattle.swh_batchread.specs.declared.names.Names.{Names}
 use Rattle.swh_batchread.specs.Refs.{kind_at, HasId}
 use Rattle.swh_batchread.specs.RefsFault.{IsFirstLacking, Lacks, LacksKid, kids_of}
-use Rattle.swh_batchread.specs.RefSteps.{kind_in, HasIdIn, either, LeadsFirst, KnowsNames, KnowsObjects, LacksIn}
+use Rattle.swh_batchread.specs.RefSteps.{kind_in, HasIdIn, either, LeadsFirst, knowing, KnowsNames, KnowsObjects, LacksIn}
 use Rattle.swh_batchread.proofs.RefsHeld.{push_iff, either_in}
 
 -- ## Ids that are one
@@ -118,15 +118,25 @@ known_more before name old new k leads added =
           (λ c. pushed.1 (either_in (k.all n).0 (more.0 c)), λ c. more.1 (either_in (k.all n).1 (pushed.0 c)));
     }
 
+-- the names of the objects are known
+pub names_known : (objects : List Entry) (known : Known) → KnowsObjects objects (knowing known) → KnowsNames (names_of objects) known.names
+names_known objects known h = record { first = h.first; all = h.all }
+
 -- one object more is known
-pub objects_more : (before : List Entry) (o : Entry) (old new : Known) (name : Name) → KnowsObjects before old → name ≡ o.name → KnowsNames (names_of before ++ name ∷ []) new.names → new.kids.items ≡ old.kids.items ++ o.kids → KnowsObjects (before ++ o ∷ []) new
+pub objects_more : (before : List Entry) (o : Entry) (old new : Known) (name : Name) → KnowsObjects before (knowing old) → name ≡ o.name → KnowsNames (names_of before ++ name ∷ []) new.names → new.kids.items ≡ old.kids.items ++ o.kids → KnowsObjects (before ++ o ∷ []) (knowing new)
 objects_more before o old new name knows named names kids =
     let whole : names_of (before ++ o ∷ []) ≡ names_of before ++ o.name ∷ [] = map-append (λ (e : Entry). e.name) before (o ∷ []) in
     let theirs : kids_of (before ++ o ∷ []) ≡ kids_of before ++ o.kids = flat_map-append (λ (e : Entry). e.kids) before (o ∷ []) ∙ ap (λ (t : List Name). kids_of before ++ t) (append-nil o.kids) in
+    let known = subst (λ (ns : List Name). KnowsNames ns new.names) (sym whole) (subst (λ (n : Name). KnowsNames (names_of before ++ n ∷ []) new.names) named names) in
     record {
-      names = subst (λ (ns : List Name). KnowsNames ns new.names) (sym whole) (subst (λ (n : Name). KnowsNames (names_of before ++ n ∷ []) new.names) named names);
+      first = known.first;
+      all = known.all;
       kids = kids ∙ ap (λ (t : List Name). t ++ o.kids) knows.kids ∙ sym theirs;
     }
+
+-- the first id that is lacking is that of a child
+pub lacks_kid : (known : Names) (ids : List (List ℕ)) (objects : List Entry) (kids others : List Name) (kid : Name) → kids ≡ others → others ≡ kids_of objects → AllByRecursion (HasIdIn known.first.entries) ids → IsFirstLacking (Contains known.all) kids kid → LacksIn known ids objects kid.id
+lacks_kid known ids objects kids others kid same are all first = inr (all, record { kid = kid; first = subst (λ (ns : List Name). IsFirstLacking (Contains known.all) ns kid) (same ∙ are) first; id_is = refl })
 
 -- ## What is not there
 

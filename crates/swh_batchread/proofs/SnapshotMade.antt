@@ -21,7 +21,8 @@ use Rattle.swh_base.proofs.Children.{one_list}
 use Rattle.swh_object.specs.Object.{IsObject}
 use Rattle.swh_model.specs.Meaning.{Made}
 use Rattle.swh_made.specs.Making.{made_from, object_of}
-use Rattle.swh_made.specs.Whole.{names_of, HasChildrenAmong}
+use Rattle.swh_made.specs.Whole.{names_of, HasChildrenAmong, HasAllThatIsReached}
+use Rattle.swh_made.specs.declared.objects.Objects.{Objects}
 use Rattle.swh_made.proofs.Elements.{first_or_later, first_is, later_is, none_is, all_from, all_push, all_as}
 use Rattle.std.proofs.lemmas.List.{map-append}
 use Rattle.std.proofs.lemmas.List.Concat.{flat_map-append}
@@ -261,6 +262,16 @@ snapshot_ended (Err e) id body P made object f = tt
 pub means_refs : {E : Type 0} (r : Result Entry E) (text : List ℕ) (objects : List Entry) (rs : List RefLine) → AreRefs text rs → IfOk r (λ o. GivesSnapshot rs objects (objects ++ o ∷ []) o.name.id) → IfOk r (λ o. MeansRefs text objects (objects ++ o ∷ []) o.name.id)
 means_refs (Ok o) text objects rs are gives = record { refs = rs; are = are; gives = gives }
 means_refs (Err e) text objects rs are gives = tt
+
+-- the same of all objects, where the snapshot stands behind them
+pub means_as : (text : List ℕ) (objects others all : List Entry) (o : Entry) (id : List ℕ) → others ≡ objects → all ≡ objects ++ o ∷ [] → id ≡ o.name.id → MeansRefs text others (others ++ o ∷ []) o.name.id → MeansRefs text objects all id
+means_as text objects others all o id same items name h =
+    subst (λ (i : List ℕ). MeansRefs text objects all i) (sym name) (subst (λ (es : List Entry). MeansRefs text objects es o.name.id) (sym items) (subst (λ (es : List Entry). MeansRefs text es (es ++ o ∷ []) o.name.id) same h))
+
+pub whole_as : {N : Type 0} (id : Kind → List ℕ → List ℕ) (objects others : List Entry) (o : Entry) (given : Objects N) → others ≡ objects → given.objects.items ≡ objects ++ o ∷ [] → given.snapshot ≡ o.name.id → IsWholeWith id (others ++ o ∷ []) o.name.id → HasAllThatIsReached id given
+whole_as id objects others o given same items name h =
+    let whole : IsWholeWith id given.objects.items given.snapshot = subst (λ (i : List ℕ). IsWholeWith id given.objects.items i) (sym name) (subst (λ (es : List Entry). IsWholeWith id es o.name.id) (ap (λ (es : List Entry). es ++ o ∷ []) same ∙ sym items) h) in
+    record { objects = whole.whole; snapshot = whole.root }
 
 -- one way to break is another, of what a call answers that reads nothing
 pub err_as : {T : Type 0} (r : Result T BatchFault) (May B More C : BatchFault → Type 0) (n : ℕ) → ((f : BatchFault) → May f → More f) → ((f : BatchFault) → B f → C f) → IfErr r (Fails (Unit {0}) May B n n) → IfErr r (Fails (Unit {0}) More C n n)

@@ -12,13 +12,12 @@ use Rattle.swh_made.specs.declared.objects.Objects.{Objects}
 use Rattle.swh_batchread.specs.declared.fault.BatchFault.{BatchFault}
 use Rattle.swh_batchread.specs.declared.giving.BatchPart.{BatchPart}
 use Rattle.swh_batchread.specs.declared.giving.BatchPart.TheVariants.{More, Last}
-use Rattle.swh_batchread.specs.declared.names.Known.{Known}
 use Rattle.swh_batchread.specs.Batch.{Given, KeepsFirst, MeansObjects, input_limit}
 use Rattle.swh_batchread.specs.BatchFault.{ExplainsBatch, Reaches}
 use Rattle.swh_batchread.specs.Parts.{HasRead, Keeps}
 use Rattle.swh_batchread.specs.Refs.{MeansRefs}
 use Rattle.swh_batchread.specs.RefsFault.{ExplainsRefs}
-use Rattle.swh_batchread.specs.RefSteps.{IsWholeWith, KnowsObjects}
+use Rattle.swh_batchread.specs.RefSteps.{IsWholeWith, Knowing, KnowsObjects}
 
 -- The text begins with good objects, of which these are kept: each kind and body once.
 pub record GivesFirst (id : Kind → List ℕ → List ℕ) (text : List ℕ) (objects : List Made) : Type 0 where
@@ -32,17 +31,17 @@ pub record GivesFirst (id : Kind → List ℕ → List ℕ) (text : List ℕ) (o
 pub record BatchState : Type 0 where
   pub held : Held
   pub kept : List Made
-  pub known : Known
+  pub known : Knowing
 
 module _ (id : Kind → List ℕ → List ℕ) where
   -- These objects were given. Their kinds and bodies are kept, and their names and children known.
-  pub record HasGiven (given : List Entry) (kept : List Made) (known : Known) : Type 0 where
+  pub record HasGiven (given : List Entry) (kept : List Made) (known : Knowing) : Type 0 where
     pub kept_are : made given ≡ kept
     pub each : AllByRecursion (IsObject id) given
     pub known_are : KnowsObjects given known
 
   -- Behind these objects an object of this kind and body is given, or nothing where one was given.
-  pub record IsPart (given : List Entry) (m : Made) (part : List Entry) (kept : List Made) (known : Known) : Type 0 where
+  pub record IsPart (given : List Entry) (m : Made) (part : List Entry) (kept : List Made) (known : Knowing) : Type 0 where
     pub keeps : Keeps (made given) m (made (given ++ part))
     pub has : HasGiven (given ++ part) kept known
 

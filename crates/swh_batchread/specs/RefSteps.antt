@@ -116,10 +116,21 @@ pub record KnowsNames (names : List Name) (known : Names) : Type 0 where
   pub first : (id : List ℕ) → kind_in known.first.entries id ≡ kind_at names id
   pub all : (name : Name) → Contains known.all name ↔ Contains names name
 
--- These are the objects: their names are known, and their children in the order of the objects.
-pub record KnowsObjects (objects : List Entry) (known : Known) : Type 0 where
-  pub names : KnowsNames (names_of objects) known.names
-  pub kids : known.kids.items ≡ kids_of objects
+-- what is known of objects: where each id leads, all names, and all children
+pub record Knowing : Type 0 where
+  pub first : List (List ℕ × Kind)
+  pub all : List Name
+  pub kids : List Name
+
+abbrev pub knowing : Known → Knowing
+knowing known = record { first = known.names.first.entries; all = known.names.all; kids = known.kids.items }
+
+-- These are the objects: each id leads to the kind of the first of them that has it, and their names are known, and their children
+-- in the order of the objects.
+pub record KnowsObjects (objects : List Entry) (k : Knowing) : Type 0 where
+  pub first : (id : List ℕ) → kind_in k.first id ≡ kind_at (names_of objects) id
+  pub all : (name : Name) → Contains k.all name ↔ Contains (names_of objects) name
+  pub kids : k.kids ≡ kids_of objects
 
 -- The first id that no object has, among those of the refs and then of the children.
 abbrev pub LacksIn : Names → List (List ℕ) → List Entry → List ℕ → Type 0

@@ -10,7 +10,7 @@ ghost use Rattle.swh_batchread.specs.declared.fault.BatchFault.TheVariants.{Read
 ghost use Rattle.swh_batchread.specs.Giving.{BreaksOff, GivesNext, GoesOn, HasGiven, IfMore, IsAtStart, IsPart};
 ghost use Rattle.swh_batchread.specs.Refs.{MeansRefs};
 ghost use Rattle.swh_batchread.specs.RefsFault.{ExplainsRefs};
-ghost use Rattle.swh_batchread.specs.RefSteps.{IsWholeWith, KnowsObjects};
+ghost use Rattle.swh_batchread.specs.RefSteps.{IsWholeWith, KnowsObjects, knowing};
 
 use crate::fault::BatchFault;
 use crate::limits::INPUT_LIMIT;
@@ -55,7 +55,9 @@ impl<N: Namer> Model for BatchParts<N> {
 
     ghost Value = { BatchState };
 
-    ghost view = { λ p. record { held = p.window; kept = p.stock.seen; known = p.stock.known } };
+    ghost use Rattle.swh_batchread.specs.RefSteps.{knowing};
+
+    ghost view = { λ p. record { held = p.window; kept = p.stock.seen; known = knowing p.stock.known } };
 }
 
 /// Keeps an object where none of its kind and body was given, and gives it out then.
@@ -65,8 +67,8 @@ fn give<N: Namer>(
     object: Object<N>,
 ) -> Result<Vec<Object<N>>, Memory>
     requires { IsObject N.id_of object }
-    ensures { (given : List Entry) → HasGiven N.id_of given stock.old.seen stock.old.known
-        → IfOk result (λ part. IsPart N.id_of given (made_from object) part.items stock.new.seen stock.new.known) }
+    ensures { (given : List Entry) → HasGiven N.id_of given stock.old.seen (knowing stock.old.known)
+        → IfOk result (λ part. IsPart N.id_of given (made_from object) part.items stock.new.seen (knowing stock.new.known)) }
 {
     let mut part = Vec::new(alloc);
     match stock.seen.add(alloc, &object)? {
@@ -86,12 +88,12 @@ fn last_part<N: Namer, S: Source>(
     known: &Known,
     refs: &mut S,
 ) -> Result<Objects<N>, BatchFault>
-    ensures ok { S.tells → (given : List Entry) → KnowsObjects given known.now
+    ensures ok { S.tells → (given : List Entry) → KnowsObjects given (knowing known.now)
         → IfOk result (λ last. MeansRefs (S.left refs.old) given (given ++ last.objects.items) last.snapshot) }
-    ensures whole { (given : List Entry) → KnowsObjects given known.now → AllByRecursion (IsObject N.id_of) given
+    ensures whole { (given : List Entry) → KnowsObjects given (knowing known.now) → AllByRecursion (IsObject N.id_of) given
         → IfOk result (λ last. IsWholeWith N.id_of (given ++ last.objects.items) last.snapshot) }
     ensures read { S.tells → IfOk result (λ _. S.left refs.new ≡ []) }
-    ensures err { (given : List Entry) → KnowsObjects given known.now
+    ensures err { (given : List Entry) → KnowsObjects given (knowing known.now)
         → IfErr result (ExplainsRefs (sources S.tells S.left S.faults S.path) refs.old given refs.new) }
 
     ensures on { IsReadOn S.path S.faults refs.old refs.new NotRead result }
@@ -118,12 +120,12 @@ fn next_part<N: Namer, S: Source>(
     requires { window.old.place ≤ INPUT_LIMIT }
     ensures given { (source : _) (others : _) (given : List Entry)
         → GoesOn N.id_of (sources S.tells S.left S.faults S.path) source others given
-        (record { held = window.old; kept = stock.old.seen; known = stock.old.known }) objects.old refs.old
+        (record { held = window.old; kept = stock.old.seen; known = knowing stock.old.known }) objects.old refs.old
         → IfOk result (GivesNext N.id_of (sources S.tells S.left S.faults S.path) source others given
-        (record { held = window.new; kept = stock.new.seen; known = stock.new.known }) objects.new refs.new) }
+        (record { held = window.new; kept = stock.new.seen; known = knowing stock.new.known }) objects.new refs.new) }
     ensures err { (source : _) (others : _) (given : List Entry)
         → GoesOn N.id_of (sources S.tells S.left S.faults S.path) source others given
-        (record { held = window.old; kept = stock.old.seen; known = stock.old.known }) objects.old refs.old
+        (record { held = window.old; kept = stock.old.seen; known = knowing stock.old.known }) objects.old refs.old
         → IfErr result (BreaksOff N.id_of (sources S.tells S.left S.faults S.path) source others given
         objects.new refs.new) }
     ensures onward { IfOk result (λ part. IfMore part (window.old.place < window.new.place)) }
@@ -194,7 +196,14 @@ impl<N: Namer> BatchParts<N> {
         ensures later { S.faults objects.old ≤ S.faults objects.new }
         ensures later_refs { S.faults refs.old ≤ S.faults refs.new }
     {
-        next_part(alloc, namer, &mut self.window, &mut self.stock, objects, refs)
+        next_part(
+            alloc,
+            namer,
+            &mut self.window,
+            &mut self.stock,
+            objects,
+            refs,
+        )
     }
 
     /// Where an object of this name and body was given, this body is kept in place of its own. Nothing else changes.

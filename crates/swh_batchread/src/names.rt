@@ -7,7 +7,7 @@ ghost use Rattle.swh_object.specs.Object.{IsObject};
 ghost use Rattle.swh_made.specs.Whole.{names_of, HasChildrenAmong};
 ghost use Rattle.swh_batchread.specs.declared.fault.BatchFault.TheVariants.{ReadFault as NotRead};
 ghost use Rattle.swh_batchread.specs.Failing.{Fails};
-ghost use Rattle.swh_batchread.specs.RefSteps.{LeadsFirst, KnowsNames, KnowsObjects, HasIdIn, LacksIn, LacksSome};
+ghost use Rattle.swh_batchread.specs.RefSteps.{LeadsFirst, KnowsNames, KnowsObjects, knowing, HasIdIn, LacksIn, LacksSome};
 ghost use Rattle.swh_batchread.specs.RefsFault.{IsFirstLacking, MayBreakSnapshot, kids_of};
 
 use crate::fault::BatchFault;
@@ -64,7 +64,7 @@ pub struct Known {
 
 /// No object is known.
 pub fn no_objects(alloc: Global) -> Known
-    ensures { KnowsObjects [] result }
+    ensures { KnowsObjects [] (knowing result) }
 {
     Known {
         names: no_names(alloc),
@@ -74,8 +74,8 @@ pub fn no_objects(alloc: Global) -> Known
 
 /// Adds an object behind those that are known.
 pub fn add_object<N: Namer>(known: &mut Known, object: &Object<N>) -> Result<(), Memory>
-    ensures { (before : List Entry) → KnowsObjects before known.old
-        → OnOk result (KnowsObjects (before ++ object.now ∷ []) known.new) }
+    ensures { (before : List Entry) → KnowsObjects before (knowing known.old)
+        → OnOk result (KnowsObjects (before ++ object.now ∷ []) (knowing known.new)) }
 {
     let name = object.name();
     add_name(&mut known.names, name)?;
@@ -85,7 +85,7 @@ pub fn add_object<N: Namer>(known: &mut Known, object: &Object<N>) -> Result<(),
 
 /// What is known of these objects.
 pub fn known_of<N: Namer>(alloc: Global, objects: &[Object<N>]) -> Result<Known, Memory>
-    ensures known { IfOk result (KnowsObjects objects.now) }
+    ensures known { IfOk result (λ known. KnowsObjects objects.now (knowing known)) }
     ensures good { OnOk result (AllByRecursion (IsObject N.id_of) objects.now) }
 {
     let mut known = no_objects(alloc);
@@ -142,9 +142,9 @@ fn lacking(known: &Known, ids: &[[u8; 20]]) -> Option<[u8; 20]>
 /// Checks that these ids of refs and all children of the objects that are known are among the names of these objects.
 pub fn check_names(known: &Known, ids: &[[u8; 20]]) -> Result<(), BatchFault>
     ensures ids { OnOk result (AllByRecursion (HasIdIn known.now.names.first.entries) ids.now) }
-    ensures kids { (objects : List Entry) → KnowsObjects objects known.now
+    ensures kids { (objects : List Entry) → KnowsObjects objects (knowing known.now)
         → OnOk result (AllByRecursion (HasChildrenAmong known.now.names.all) objects) }
-    ensures err { (objects : List Entry) → KnowsObjects objects known.now → (faults : ℕ)
+    ensures err { (objects : List Entry) → KnowsObjects objects (knowing known.now) → (faults : ℕ)
         → IfErr result (Fails (Unit {0}) (MayBreakSnapshot objects) (LacksSome (names_of objects) ids.now objects)
         faults faults) }
     ensures quiet { IsErrOf result NotRead → ⊥ }

@@ -1,6 +1,6 @@
 //! The snapshot of refs and of the objects of a batch (SWHID v1.2, core identifiers, snapshots).
 ghost use Rattle.std.specs.Prelude.{◌≡◌, ◌≤◌, ◌+◌, ◌^◌, ◌++◌, ◌∷◌, [], ℕ, List, IfOk, IfErr, OnOk, IsErrOf, MatchResult, length, map};
-ghost use Rattle.std.specs.List.{filter_map};
+ghost use Rattle.std.specs.List.{AllByRecursion, filter_map};
 ghost use Rattle.swh_base.specs.Name.{IsId};
 ghost use Rattle.swh_base.specs.declared.kind.Kind.TheVariants.{Snapshot};
 ghost use Rattle.swh_base.specs.Snapshot.{AreBranches, branch_text, snapshot_name, snapshot_text};
@@ -15,7 +15,7 @@ ghost use Rattle.swh_batchread.specs.declared.fault.BatchFault.TheVariants.{Read
 ghost use Rattle.swh_batchread.specs.Failing.{Fails};
 ghost use Rattle.swh_batchread.specs.Refs.{RefLine, branch_to, branch_with, AreRefLines, GivesSnapshot, EndsWithSnapshot, MeansRefs};
 ghost use Rattle.swh_batchread.specs.RefsFault.{SnapshotBreaks, MayBreakSnapshot, MeansRefsLeft, ExplainsRefs};
-ghost use Rattle.swh_batchread.specs.RefSteps.{line_at, kind_in, AreHeld, Ascend, Holds, IsWholeWith, KnowsObjects, PassesBody};
+ghost use Rattle.swh_batchread.specs.RefSteps.{line_at, kind_in, AreHeld, Ascend, Holds, IsWholeWith, KnowsObjects, knowing, PassesBody};
 
 use crate::fault::BatchFault;
 use crate::names::{Known, check_names, known_of};
@@ -160,12 +160,12 @@ fn end_refs<N: Namer>(
     known: &Known,
 ) -> Result<Object<N>, BatchFault>
     requires { AreHeld refs }
-    ensures ok { (objects : List Entry) → KnowsObjects objects known.now → (rs : List RefLine) → AreRefLines rs
+    ensures ok { (objects : List Entry) → KnowsObjects objects (knowing known.now) → (rs : List RefLine) → AreRefLines rs
         → Holds rs refs → IfOk result (λ o. GivesSnapshot rs objects (objects ++ o ∷ []) o.name.id) }
     ensures named { IfOk result (λ o. o.name ≡ snapshot_name o.name.id) }
-    ensures whole { (objects : List Entry) → KnowsObjects objects known.now → AllByRecursion (IsObject N.id_of) objects
+    ensures whole { (objects : List Entry) → KnowsObjects objects (knowing known.now) → AllByRecursion (IsObject N.id_of) objects
         → IfOk result (λ o. IsWholeWith N.id_of (objects ++ o ∷ []) o.name.id) }
-    ensures err { (objects : List Entry) → KnowsObjects objects known.now → (rs : List RefLine) → AreRefLines rs
+    ensures err { (objects : List Entry) → KnowsObjects objects (knowing known.now) → (rs : List RefLine) → AreRefLines rs
         → Holds rs refs → (faults : ℕ) → IfErr result (Fails (Unit {0}) (MayBreakSnapshot objects)
         (SnapshotBreaks rs objects) faults faults) }
     ensures quiet { IsErrOf result NotRead → ⊥ }
@@ -187,13 +187,13 @@ pub fn read_snapshot<N: Namer, S: Source>(
     source: &mut S,
     known: &Known,
 ) -> Result<Object<N>, BatchFault>
-    ensures ok { S.tells → (objects : List Entry) → KnowsObjects objects known.now
+    ensures ok { S.tells → (objects : List Entry) → KnowsObjects objects (knowing known.now)
         → IfOk result (λ o. MeansRefs (S.left source.old) objects (objects ++ o ∷ []) o.name.id) }
     ensures named { IfOk result (λ o. o.name ≡ snapshot_name o.name.id) }
-    ensures whole { (objects : List Entry) → KnowsObjects objects known.now → AllByRecursion (IsObject N.id_of) objects
+    ensures whole { (objects : List Entry) → KnowsObjects objects (knowing known.now) → AllByRecursion (IsObject N.id_of) objects
         → IfOk result (λ o. IsWholeWith N.id_of (objects ++ o ∷ []) o.name.id) }
     ensures read { S.tells → IfOk result (λ _. S.left source.new ≡ []) }
-    ensures err { (objects : List Entry) → KnowsObjects objects known.now
+    ensures err { (objects : List Entry) → KnowsObjects objects (knowing known.now)
         → IfErr result (ExplainsRefs (sources S.tells S.left S.faults S.path) source.old objects source.new) }
 
     ensures on { IsReadOn S.path S.faults source.old source.new NotRead result }

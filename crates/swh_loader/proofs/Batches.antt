@@ -47,7 +47,7 @@ goes_on old new (Ok next) low came = λ more.
 goes_on old new (Err fault) low came = tt
 
 -- The reader has read nothing, and the two sources are those of the input.
-module _ {S F I N : Type 0} (id : Kind → List ℕ → List ℕ) (p : Parts S F) (state : I → BatchState) (objects_of refs_of : I → S) (name_of refs_name_of : I → ℕ) (Gives : I → Result (Next N InputFault) Memory → I → Type 0) (i : I)
+module _ {S F I N : Type 0} (id : Kind → List ℕ → List ℕ) (p : Parts S F) (i : I) (state : I → BatchState) (objects_of refs_of : I → S) (name_of refs_name_of : I → ℕ) (Gives : I → Result (Next N InputFault) Memory → I → Type 0)
     (on : (a : I) (found : Result (Next N InputFault) Memory) (now : I) (given : List Entry) → Gives a found now → GoesOn id p.sources (objects_of i) (refs_of i) given (state a) (objects_of a) (refs_of a)
     → IfOk found (IsNextOfBatch id p.sources (objects_of i) (refs_of i) given (state now) (objects_of now) (refs_of now)))
     (begins : GoesOn id p.sources (objects_of i) (refs_of i) [] (state i) (objects_of i) (refs_of i)) where

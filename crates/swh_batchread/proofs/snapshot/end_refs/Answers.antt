@@ -1,4 +1,4 @@
-use Rattle.std.proofs.Common.{List, ℕ, refl, sym, ap, ◌∙◌, ◌++◌, ◌∷◌, [], subst}
+use Rattle.std.proofs.Common.{List, refl, sym, ap, ◌∙◌, subst}
 use Rattle.std.specs.List.{AllByRecursion}
 use Rattle.swh_base.specs.declared.kind.Kind.TheVariants.{Snapshot}
 use Rattle.swh_base.specs.Snapshot.{SnapshotBranch, AreBranches, snapshot_text}
@@ -9,6 +9,7 @@ use Rattle.swh_batchread.specs.RefsFault.{SnapshotBreaks, MayBreakSnapshot}
 use Rattle.swh_batchread.specs.RefSteps.{HasIdIn, LacksSome, PassesBody}
 use Rattle.swh_batchread.proofs.Breaking.{fails_as}
 use Rattle.swh_batchread.proofs.ReadsOn.{never_read}
+use Rattle.swh_batchread.proofs.NamesKnown.{names_known}
 use Rattle.swh_batchread.proofs.Reaching.{exits}
 use Rattle.swh_batchread.proofs.SnapshotMade.{held_branches, snapshot_ended, snapshot_named, gives_snapshot, has_all, lacks_breaks, long_breaks, may_pass, err_as}
 use Rattle.swh_batchread.proofs.snapshot.end_refs.Goals as goal
@@ -30,14 +31,14 @@ returns-clause-err g c = λ objects knows rs are h n.
     let body = snapshot_text (branch_views c.in_ok-listing.listing.branches.items) in
     err_as c.snapshot_of.result (PassesBody body) (PassesBody body) (MayBreakSnapshot objects) (SnapshotBreaks rs objects) n
     (may_pass objects body)
-    (λ fault b. long_breaks objects c.args.known.now.names rs c.args.refs fault knows.names are h ids (c.in_ok-check_names.ensures.kids objects knows) c.in_ok-listing.ensures.ascend (subst (λ (bs : List SnapshotBranch). PassesBody (snapshot_text bs) fault) c.in_ok-listing.ensures.list b)) (c.snapshot_of.ensures.err n)
+    (λ fault b. long_breaks objects c.args.known.now.names rs c.args.refs fault (names_known objects c.args.known.now knows) are h ids (c.in_ok-check_names.ensures.kids objects knows) c.in_ok-listing.ensures.ascend (subst (λ (bs : List SnapshotBranch). PassesBody (snapshot_text bs) fault) c.in_ok-listing.ensures.list b)) (c.snapshot_of.ensures.err n)
 
 pub returns-clause-ok : goal.returns-clause-ok
 returns-clause-ok g c = λ objects knows rs are h.
     let known = c.args.known.now.names in
     let ids = subst (AllByRecursion (HasIdIn known.first.entries)) c.as_slice.ensures.value c.in_ok-check_names.ensures.ids in
     snapshot_ended c.snapshot_of.result g.N.Namer.id_of _ _ c.snapshot_of.ensures.made c.snapshot_of.ensures.object
-    (λ o made object. gives_snapshot g.N.Namer.id_of objects known rs c.args.refs o knows.names are h ids (c.in_ok-check_names.ensures.kids objects knows) c.in_ok-listing.ensures.ascend
+    (λ o made object. gives_snapshot g.N.Namer.id_of objects known rs c.args.refs o (names_known objects c.args.known.now knows) are h ids (c.in_ok-check_names.ensures.kids objects knows) c.in_ok-listing.ensures.ascend
     (made ∙ ap (λ (bs : List SnapshotBranch). object_of Snapshot (snapshot_text bs)) c.in_ok-listing.ensures.list) object)
 
 pub returns-clause-named : goal.returns-clause-named
@@ -47,11 +48,8 @@ pub returns-clause-whole : goal.returns-clause-whole
 returns-clause-whole g c = λ objects knows each.
     let known = c.args.known.now.names in
     snapshot_ended c.snapshot_of.result g.N.Namer.id_of _ _ c.snapshot_of.ensures.made c.snapshot_of.ensures.object
-    (λ o made object. has_all g.N.Namer.id_of objects known c.args.refs o knows.names c.requires each (c.in_ok-check_names.ensures.kids objects knows) c.in_ok-listing.ensures.ascend
+    (λ o made object. has_all g.N.Namer.id_of objects known c.args.refs o (names_known objects c.args.known.now knows) c.requires each (c.in_ok-check_names.ensures.kids objects knows) c.in_ok-listing.ensures.ascend
     (made ∙ ap (λ (bs : List SnapshotBranch). object_of Snapshot (snapshot_text bs)) c.in_ok-listing.ensures.list) object)
-
-pub returns-in_err-check_names-clause-quiet : goal.returns-in_err-check_names-clause-quiet
-returns-in_err-check_names-clause-quiet g c = ?
 
 pub returns-clause-quiet : goal.returns-clause-quiet
 returns-clause-quiet g c = never_read (PassesBody (snapshot_text (branch_views c.in_ok-listing.listing.branches.items))) (PassesBody (snapshot_text (branch_views c.in_ok-listing.listing.branches.items))) c.snapshot_of.result c.snapshot_of.ensures.err

@@ -1,4 +1,4 @@
-use Rattle.std.proofs.Common.{inl, inr, refl, List, ◌++◌, ◌∷◌, []}
+use Rattle.std.proofs.Common.{inl, inr, refl}
 use Rattle.swh_batchread.specs.Failing.{Fails}
 use Rattle.swh_batchread.specs.RefsFault.{BreaksLines, SnapshotBreaks, BreaksRefs, MayBreakLines, MayBreakSnapshot, MayBreakRefs}
 use Rattle.swh_batchread.proofs.Breaking.{fails_as}
@@ -26,7 +26,7 @@ returns-clause-err g c = λ objects knows.
 pub returns-clause-on : goal.returns-clause-on
 returns-clause-on g c =
     let lines = c.in_ok-refs.ensures.on in
-    ended_by g.S.Source.path g.S.Source.faults c.args.source.now c.read_lines.new.source c.end_refs.result lines.same_path lines.quiet c.end_refs.ensures.quiet
+    ended_by g.S.Source.path g.S.Source.faults c.args.source.now c.read_lines.new.source c.end_refs.result lines.same_path (lines.quiet (λ e. cc)) c.end_refs.ensures.quiet
 
 pub returns-in_err-refs-clause-err : goal.returns-in_err-refs-clause-err
 returns-in_err-refs-clause-err g c = λ objects knows.
