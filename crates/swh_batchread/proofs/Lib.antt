@@ -1,4 +1,5 @@
 pub mod Breaking
+pub mod Givings
 pub mod Headers
 pub mod NamesKnown
 pub mod Reaching

@@ -1,6 +1,6 @@
 -- Names that are known, and what is named and is none of them.
 use Rattle.std.specs.Prelude.{is_some, IsSome, ◌↔◌}
-use Rattle.std.proofs.Common.{◌≡◌, ◌⊎◌, inl, inr, ℕ, zero, suc, ◌+◌, ◌<◌, Bool, true, false, cond, Option, Some, None, List, [], ◌∷◌, ◌++◌, length, get_or, take, drop, Contains, refl, sym, ap, ◌∙◌, subst, arith, append_assoc}
+use Rattle.std.proofs.Common.{◌≡◌, ◌⊎◌, inl, inr, ℕ, zero, suc, ◌+◌, ◌<◌, Bool, true, false, cond, Option, Some, None, List, [], ◌∷◌, ◌++◌, length, get_or, take, drop, Contains, refl, sym, ap, ◌∙◌, subst, arith}
 use Rattle.std.specs.declared.cmp.Ordering.{Ordering}
 use Rattle.std.specs.declared.cmp.Ordering.TheVariants.{Less, Equal, Greater}
 use Rattle.std.specs.Ordering.{nat_cmp, is_eq, ordering_reverse}
@@ -12,13 +12,14 @@ use Rattle.std.proofs.lemmas.List.Concat.{flat_map-append}
 use Rattle.swh_base.specs.declared.entry.Entry.{Entry}
 use Rattle.swh_base.specs.declared.kind.Kind.{Kind}
 use Rattle.swh_base.specs.declared.name.Name.{Name}
-use Rattle.std.proofs.lemmas.List.{map-append, take_more}
+use Rattle.std.proofs.lemmas.List.{append-nil, map-append, take_more}
 use Rattle.swh_made.specs.Whole.{names_of, HasChildrenAmong}
 use Rattle.swh_made.proofs.Elements.{first_is, later_is}
+use Rattle.swh_batchread.specs.declared.names.Known.{Known}
 use Rattle.swh_batchread.specs.declared.names.Names.{Names}
 use Rattle.swh_batchread.specs.Refs.{kind_at, HasId}
 use Rattle.swh_batchread.specs.RefsFault.{IsFirstLacking, Lacks, LacksKid, kids_of}
-use Rattle.swh_batchread.specs.RefSteps.{kind_in, HasIdIn, either, LeadsFirst, KnowsNames, LacksIn}
+use Rattle.swh_batchread.specs.RefSteps.{kind_in, HasIdIn, either, LeadsFirst, knowing, KnowsNames, KnowsObjects, LacksIn}
 use Rattle.swh_batchread.proofs.RefsHeld.{push_iff, either_in}
 
 -- ## Ids that are one
@@ -117,11 +118,25 @@ known_more before name old new k leads added =
           (λ c. pushed.1 (either_in (k.all n).0 (more.0 c)), λ c. more.1 (either_in (k.all n).1 (pushed.0 c)));
     }
 
--- the name of one object more is known
-pub known_push : (objects : List Entry) (i : ℕ) (o : Entry) (name : Name) (new : Names) → take (i + 1) objects ≡ take i objects ++ o ∷ [] → name ≡ o.name → KnowsNames (names_of (take i objects) ++ name ∷ []) new → KnowsNames (names_of (take (i + 1) objects)) new
-known_push objects i o name new more named k =
-    let whole : names_of (take (i + 1) objects) ≡ names_of (take i objects) ++ o.name ∷ [] = ap names_of more ∙ map-append (λ (e : Entry). e.name) (take i objects) (o ∷ []) in
-    subst (λ (ns : List Name). KnowsNames ns new) (sym whole) (subst (λ (n : Name). KnowsNames (names_of (take i objects) ++ n ∷ []) new) named k)
+-- the names of the objects are known
+pub names_known : (objects : List Entry) (known : Known) → KnowsObjects objects (knowing known) → KnowsNames (names_of objects) known.names
+names_known objects known h = record { first = h.first; all = h.all }
+
+-- one object more is known
+pub objects_more : (before : List Entry) (o : Entry) (old new : Known) (name : Name) → KnowsObjects before (knowing old) → name ≡ o.name → KnowsNames (names_of before ++ name ∷ []) new.names → new.kids.items ≡ old.kids.items ++ o.kids → KnowsObjects (before ++ o ∷ []) (knowing new)
+objects_more before o old new name knows named names kids =
+    let whole : names_of (before ++ o ∷ []) ≡ names_of before ++ o.name ∷ [] = map-append (λ (e : Entry). e.name) before (o ∷ []) in
+    let theirs : kids_of (before ++ o ∷ []) ≡ kids_of before ++ o.kids = flat_map-append (λ (e : Entry). e.kids) before (o ∷ []) ∙ ap (λ (t : List Name). kids_of before ++ t) (append-nil o.kids) in
+    let known = subst (λ (ns : List Name). KnowsNames ns new.names) (sym whole) (subst (λ (n : Name). KnowsNames (names_of before ++ n ∷ []) new.names) named names) in
+    record {
+      first = known.first;
+      all = known.all;
+      kids = kids ∙ ap (λ (t : List Name). t ++ o.kids) knows.kids ∙ sym theirs;
+    }
+
+-- the first id that is lacking is that of a child
+pub lacks_kid : (known : Names) (ids : List (List ℕ)) (objects : List Entry) (kids others : List Name) (kid : Name) → kids ≡ others → others ≡ kids_of objects → AllByRecursion (HasIdIn known.first.entries) ids → IsFirstLacking (Contains known.all) kids kid → LacksIn known ids objects kid.id
+lacks_kid known ids objects kids others kid same are all first = inr (all, record { kid = kid; first = subst (λ (ns : List Name). IsFirstLacking (Contains known.all) ns kid) (same ∙ are) first; id_is = refl })
 
 -- ## What is not there
 
@@ -138,23 +153,17 @@ pub all_append : {X : Type 0} (P : X → Type 0) (xs ys : List X) → AllByRecur
 all_append P [] ys h k = k
 all_append P (x ∷ xs) ys h k = (h.0, all_append P xs ys h.1 k)
 
-kids_there : (names : List Name) (objects : List Entry) → AllByRecursion (HasChildrenAmong names) objects → AllByRecursion (Contains names) (kids_of objects)
-kids_there names [] h = tt
-kids_there names (o ∷ objects) h = all_append (Contains names) o.kids (kids_of objects) h.0 (kids_there names objects h.1)
+all_front : {X : Type 0} (P : X → Type 0) (xs ys : List X) → AllByRecursion P (xs ++ ys) → AllByRecursion P xs × AllByRecursion P ys
+all_front P [] ys h = (tt, h)
+all_front P (x ∷ xs) ys h = let rest = all_front P xs ys h.1 in ((h.0, rest.0), rest.1)
 
--- the first child that is not there, behind objects whose children all are
-pub kid_behind : (names : List Name) (objects : List Entry) (i : ℕ) (o : Entry) (kid : Name) → i < length objects → o ≡ get_or objects i o → AllByRecursion (HasChildrenAmong names) (take i objects) → IsFirstLacking (Contains names) o.kids kid → IsFirstLacking (Contains names) (kids_of objects) kid
-kid_behind names objects i o kid l here there f =
-    let front = kids_of (take i objects) in
-    let behind = kids_of (drop (suc i) objects) in
-    record {
-      before = front ++ f.before;
-      after = f.after ++ behind;
-      cut = ap kids_of (cut_at objects i o l ∙ ap (λ (x : Entry). take i objects ++ x ∷ drop (suc i) objects) (sym here)) ∙ flat_map-append (λ (e : Entry). e.kids) (take i objects) (o ∷ drop (suc i) objects) ∙ ap (λ (t : List Name). front ++ (t ++ behind)) f.cut
-          ∙ ap (λ (t : List Name). front ++ t) (append_assoc f.before (kid ∷ f.after) behind) ∙ sym (append_assoc front f.before (kid ∷ (f.after ++ behind)));
-      found = all_append (Contains names) front f.before (kids_there names (take i objects) there) f.found;
-      none = f.none;
-    }
+each_kids : (names : List Name) (objects : List Entry) → AllByRecursion (Contains names) (kids_of objects) → AllByRecursion (HasChildrenAmong names) objects
+each_kids names [] h = tt
+each_kids names (o ∷ objects) h = let both = all_front (Contains names) o.kids (kids_of objects) h in (both.0, each_kids names objects both.1)
+
+-- all children of the objects are there
+pub kids_each : (names : List Name) (objects : List Entry) (kids : List Name) → kids ≡ kids_of objects → AllByRecursion (Contains names) kids → AllByRecursion (HasChildrenAmong names) objects
+kids_each names objects kids same h = each_kids names objects (subst (AllByRecursion (Contains names)) same h)
 
 pub first_here : {X : Type 0} (P : X → Type 0) (xs : List X) (i : ℕ) (d : X) → i < length xs → AllByRecursion P (take i xs) → (P (get_or xs i d) → ⊥) → IsFirstLacking P xs (get_or xs i d)
 first_here P xs i d l found none = record { before = take i xs; after = drop (suc i) xs; cut = cut_at xs i d l; found = found; none = none }

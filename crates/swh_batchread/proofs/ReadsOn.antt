@@ -1,6 +1,6 @@
 -- What a part of an input that ends a call, and reads nothing, leaves of the source that was read before.
-use Rattle.std.proofs.Common.{◌≡◌, ℕ, ◌≤◌, List, Ok, Err, subst, arith}
-use Rattle.std.specs.Prelude.{Result, IfErr, OnOk, IsErrOf}
+use Rattle.std.proofs.Common.{◌≡◌, ℕ, List, subst, arith}
+use Rattle.std.specs.Prelude.{Result, IfErr, IsErrOf}
 use Rattle.std.specs.Result.{IsErrAnd}
 use Rattle.std.proofs.lemmas.Result.{err_from_is_err_and}
 use Rattle.swh_outside.specs.Faults.{Rose}
@@ -22,13 +22,13 @@ never_read May B r h e = none_rose (rw e at (h 0))
 
 module _ {S T : Type 0} (path : S → List ℕ) (faults : S → ℕ) (old new : S) (r : Result T BatchFault) (same : path new ≡ path old) where
   -- where its fault is the one with which a `?` leaves
-  pub left_by : (fault : BatchFault) → IsErrAnd r (λ f. f ≡ fault) → faults old ≤ faults new → (fault ≡ ReadFault → ⊥) → IsReadOn path faults old new ReadFault r
-  left_by fault is late none =
+  pub left_by : (fault : BatchFault) → IsErrAnd r (λ f. f ≡ fault) → faults new ≡ faults old → (fault ≡ ReadFault → ⊥) → IsReadOn path faults old new ReadFault r
+  left_by fault is quiet none =
       let q = err_from_is_err_and r is in
       record {
         same_path = same;
-        later = late;
-        quiet = rw q.1 tt;
+        later = omega (arith, quiet);
+        quiet = λ other. quiet;
         cause = λ e. absurd (none (let f : fault ≡ ReadFault = cc (e, q.1, q.2) in f));
       }
 
@@ -38,6 +38,6 @@ module _ {S T : Type 0} (path : S → List ℕ) (faults : S → ℕ) (old new : 
       record {
         same_path = same;
         later = omega (arith, quiet);
-        quiet = elim r as (λ (x : Result T BatchFault). OnOk x (faults new ≡ faults old)) [ Ok x ↦ quiet | Err x ↦ tt ];
+        quiet = λ other. quiet;
         cause = λ e. absurd (none e);
       }

@@ -1,5 +1,5 @@
 -- The snapshot of refs: its branches, and that all that is named is there.
-use Rattle.std.specs.Prelude.{not, filter, Result, Ok, Err, IfErr, decimal}
+use Rattle.std.specs.Prelude.{not, filter, Result, Ok, Err, IfOk, IfErr, decimal}
 use Rattle.std.proofs.Common.{◌≡◌, ◌⊎◌, inl, inr, ℕ, ◌+◌, ◌≤◌, Bool, true, false, cond, Option, Some, None, List, [], ◌∷◌, ◌++◌, length, map, Contains, refl, sym, ap, ◌∙◌, subst, arith, append_assoc, length-append}
 use Rattle.std.specs.Fmt.{digits}
 use Rattle.std.specs.Global.{Vec}
@@ -19,8 +19,9 @@ use Rattle.swh_base.specs.Name.{IsId}
 use Rattle.swh_base.specs.Snapshot.{SnapshotBranch, target_kind_word, BranchIsBefore, AreBranches, branch_text, snapshot_text, branch_child, snapshot_name}
 use Rattle.swh_base.proofs.Children.{one_list}
 use Rattle.swh_object.specs.Object.{IsObject}
+use Rattle.swh_model.specs.Meaning.{Made}
 use Rattle.swh_made.specs.Making.{made_from, object_of}
-use Rattle.swh_made.specs.Whole.{names_of, HasChildrenAmong, AreWhole, HasAllThatIsReached}
+use Rattle.swh_made.specs.Whole.{names_of, HasChildrenAmong, HasAllThatIsReached}
 use Rattle.swh_made.specs.declared.objects.Objects.{Objects}
 use Rattle.swh_made.proofs.Elements.{first_or_later, first_is, later_is, none_is, all_from, all_push, all_as}
 use Rattle.std.proofs.lemmas.List.{map-append}
@@ -30,9 +31,11 @@ use Rattle.swh_batchread.specs.declared.fault.BatchFault.{BatchFault}
 use Rattle.swh_batchread.specs.declared.fault.BatchFault.TheVariants.{BadBatch, WrongName, BadRefs, NoObject, Limit, ReadFault, Memory}
 use Rattle.swh_batchread.specs.declared.names.Names.{Names}
 use Rattle.swh_batchread.specs.declared.refs.Refs.{Refs}
-use Rattle.swh_batchread.specs.Refs.{RefLine, IsRefLine, AreRefLines, is_peeled, kept_refs, ref_ids, kind_at, HasId, branch_to, branch_with, branch_of, AreBranchesOf, AreAllThere, GivesSnapshot}
+use Rattle.swh_batchread.specs.Refs.{RefLine, IsRefLine, AreRefLines, is_peeled, kept_refs, ref_ids, kind_at, HasId, branch_to, branch_with, branch_of, AreBranchesOf, AreAllThere, AreRefs, GivesSnapshot, MeansRefs}
 use Rattle.swh_batchread.specs.RefsFault.{SnapshotBreaks, MayBreakSnapshot, Lacks}
-use Rattle.swh_batchread.specs.RefSteps.{line_at, kind_in, HasIdIn, Ascend, AreHeld, Holds, KnowsNames, LacksSome, PassesBody}
+use Rattle.swh_batchread.specs.RefSteps.{line_at, kind_in, HasIdIn, Ascend, AreHeld, Holds, IsWholeWith, KnowsNames, LacksSome, PassesBody}
+use Rattle.swh_batchread.specs.Failing.{Fails}
+use Rattle.swh_batchread.proofs.Breaking.{fails_as}
 use Rattle.swh_batchread.proofs.NamesKnown.{name_with, kind_found, ids_there, children_there}
 
 -- ## Lines that are good
@@ -174,11 +177,11 @@ all_there objects known rs refs knows held ids kids =
     }
 
 -- the snapshot is given behind the objects
-pub gives_snapshot : {N : Type 0} (id : Kind → List ℕ → List ℕ) (objects : List Entry) (known : Names) (rs : List RefLine) (refs : Refs) (snapshot : Entry) (given : Objects N)
+pub gives_snapshot : (id : Kind → List ℕ → List ℕ) (objects : List Entry) (known : Names) (rs : List RefLine) (refs : Refs) (snapshot : Entry)
     → KnowsNames (names_of objects) known → AreRefLines rs → Holds rs refs → AllByRecursion (HasIdIn known.first.entries) refs.ids.items → AllByRecursion (HasChildrenAmong known.all) objects → Ascend (map line_at refs.by_name.entries)
     → made_from snapshot ≡ object_of Snapshot (snapshot_text (filter_map (branch_with (kind_in known.first.entries)) (map line_at refs.by_name.entries))) → IsObject id snapshot
-    → given.objects.items ≡ objects ++ snapshot ∷ [] → given.snapshot ≡ snapshot.name.id → GivesSnapshot rs objects given.objects.items given.snapshot
-gives_snapshot id objects known rs refs snapshot given knows are held ids kids ascend made object items name =
+    → GivesSnapshot rs objects (objects ++ snapshot ∷ []) snapshot.name.id
+gives_snapshot id objects known rs refs snapshot knows are held ids kids ascend made object =
     let body = ap (λ m. m.body) made in
     let short = object.short in
     record {
@@ -188,8 +191,8 @@ gives_snapshot id objects known rs refs snapshot given knows are held ids kids a
       short = subst (λ (t : List ℕ). length t ≤ body_limit) body short;
       snapshot = snapshot;
       made = made;
-      objects_are = items;
-      id_is = name;
+      objects_are = refl;
+      id_is = refl;
     }
 
 -- the snapshot's children are among the names
@@ -208,11 +211,11 @@ pub snapshot_named : (snapshot : Entry) (body id : List ℕ) → made_from snaps
 snapshot_named snapshot body id made same = ap (λ (k : Kind). name_with k snapshot.name.id) (ap (λ m. m.kind) made) ∙ ap snapshot_name (sym same)
 
 -- all that is reached is there
-pub has_all : {N : Type 0} (id : Kind → List ℕ → List ℕ) (objects : List Entry) (known : Names) (refs : Refs) (snapshot : Entry) (given : Objects N)
+pub has_all : (id : Kind → List ℕ → List ℕ) (objects : List Entry) (known : Names) (refs : Refs) (snapshot : Entry)
     → KnowsNames (names_of objects) known → AreHeld refs → AllByRecursion (IsObject id) objects → AllByRecursion (HasChildrenAmong known.all) objects → Ascend (map line_at refs.by_name.entries)
     → made_from snapshot ≡ object_of Snapshot (snapshot_text (filter_map (branch_with (kind_in known.first.entries)) (map line_at refs.by_name.entries))) → IsObject id snapshot
-    → given.objects.items ≡ objects ++ snapshot ∷ [] → given.snapshot ≡ snapshot.name.id → HasAllThatIsReached id given
-has_all id objects known refs snapshot given knows held each kids ascend made object items name =
+    → IsWholeWith id (objects ++ snapshot ∷ []) snapshot.name.id
+has_all id objects known refs snapshot knows held each kids ascend made object =
     let names = names_of objects in
     let all : List Name = names_of (objects ++ snapshot ∷ []) in
     let more : all ≡ names ++ snapshot.name ∷ [] = map-append (λ (e : Entry). e.name) objects (snapshot ∷ []) in
@@ -222,12 +225,10 @@ has_all id objects known refs snapshot given knows held each kids ascend made ob
     let there = kids_found (kind_in known.first.entries) names (map line_at refs.by_name.entries) (λ i k e. kind_found names i k (sym (knows.first i) ∙ e)) in
     let own = all_as (Contains names) (Contains all) wider snapshot.kids (snapshot_kids id names branches snapshot good made object there) in
     let theirs = all_as (HasChildrenAmong names) (HasChildrenAmong all) (λ e c. all_as (Contains names) (Contains all) wider e.kids c) objects (children_there names known objects knows kids) in
-    let named = snapshot_named snapshot (snapshot_text branches) given.snapshot made name in
-    let whole : AreWhole id (objects ++ snapshot ∷ []) = record { each = all_push (IsObject id) objects snapshot each object; kids = all_push (HasChildrenAmong all) objects snapshot theirs own } in
-    let last : Contains all (snapshot_name given.snapshot) = subst (λ (n : Name). Contains all n) named (subst (λ (ns : List Name). Contains ns snapshot.name) (sym more) (Contains-push names snapshot.name)) in
+    let named = snapshot_named snapshot (snapshot_text branches) snapshot.name.id made refl in
     record {
-      objects = subst (AreWhole id) (sym items) whole;
-      snapshot = subst (λ (es : List Entry). Contains (names_of es) (snapshot_name given.snapshot)) (sym items) last;
+      whole = record { each = all_push (IsObject id) objects snapshot each object; kids = all_push (HasChildrenAmong all) objects snapshot theirs own };
+      root = subst (λ (n : Name). Contains all n) named (subst (λ (ns : List Name). Contains ns snapshot.name) (sym more) (Contains-push names snapshot.name));
     }
 
 -- ## What breaks
@@ -242,9 +243,6 @@ lacks_breaks objects rs ids (BadRefs line) e h = absurd h
 lacks_breaks objects rs ids ReadFault e h = absurd h
 lacks_breaks objects rs ids Memory e h = absurd h
 
-pub lacks_breaks_of : (objects others : List Entry) (rs : List RefLine) (ids own : List (List ℕ)) (fault : BatchFault) → others ≡ objects → ids ≡ own → own ≡ ref_ids rs → LacksSome (names_of others) ids others fault → SnapshotBreaks rs objects fault
-lacks_breaks_of objects others rs ids own fault same e held h = lacks_breaks objects rs ids fault (e ∙ held) (subst (λ (es : List Entry). LacksSome (names_of es) ids es fault) same h)
-
 -- a snapshot that is too long is one that some objects have
 pub may_pass : (objects : List Entry) (body : List ℕ) (fault : BatchFault) → PassesBody body fault → MayBreakSnapshot objects fault
 may_pass objects body (Limit which number) p = (p.0, p.2)
@@ -254,6 +252,31 @@ may_pass objects body (BadRefs line) p = absurd p
 may_pass objects body (NoObject id) p = absurd p
 may_pass objects body ReadFault p = absurd p
 may_pass objects body Memory p = absurd p
+
+-- what holds of a snapshot that is made of a body
+pub snapshot_ended : {E : Type 0} (r : Result Entry E) (id : Kind → List ℕ → List ℕ) (body : Made) (P : Entry → Type 0) → IfOk r (λ o. made_from o ≡ body) → IfOk r (IsObject id) → ((o : Entry) → made_from o ≡ body → IsObject id o → P o) → IfOk r P
+snapshot_ended (Ok o) id body P made object f = f o made object
+snapshot_ended (Err e) id body P made object f = tt
+
+-- the text is one of refs that give this
+pub means_refs : {E : Type 0} (r : Result Entry E) (text : List ℕ) (objects : List Entry) (rs : List RefLine) → AreRefs text rs → IfOk r (λ o. GivesSnapshot rs objects (objects ++ o ∷ []) o.name.id) → IfOk r (λ o. MeansRefs text objects (objects ++ o ∷ []) o.name.id)
+means_refs (Ok o) text objects rs are gives = record { refs = rs; are = are; gives = gives }
+means_refs (Err e) text objects rs are gives = tt
+
+-- the same of all objects, where the snapshot stands behind them
+pub means_as : (text : List ℕ) (objects others all : List Entry) (o : Entry) (id : List ℕ) → others ≡ objects → all ≡ objects ++ o ∷ [] → id ≡ o.name.id → MeansRefs text others (others ++ o ∷ []) o.name.id → MeansRefs text objects all id
+means_as text objects others all o id same items name h =
+    subst (λ (i : List ℕ). MeansRefs text objects all i) (sym name) (subst (λ (es : List Entry). MeansRefs text objects es o.name.id) (sym items) (subst (λ (es : List Entry). MeansRefs text es (es ++ o ∷ []) o.name.id) same h))
+
+pub whole_as : {N : Type 0} (id : Kind → List ℕ → List ℕ) (objects others : List Entry) (o : Entry) (given : Objects N) → others ≡ objects → given.objects.items ≡ objects ++ o ∷ [] → given.snapshot ≡ o.name.id → IsWholeWith id (others ++ o ∷ []) o.name.id → HasAllThatIsReached id given
+whole_as id objects others o given same items name h =
+    let whole : IsWholeWith id given.objects.items given.snapshot = subst (λ (i : List ℕ). IsWholeWith id given.objects.items i) (sym name) (subst (λ (es : List Entry). IsWholeWith id es o.name.id) (ap (λ (es : List Entry). es ++ o ∷ []) same ∙ sym items) h) in
+    record { objects = whole.whole; snapshot = whole.root }
+
+-- one way to break is another, of what a call answers that reads nothing
+pub err_as : {T : Type 0} (r : Result T BatchFault) (May B More C : BatchFault → Type 0) (n : ℕ) → ((f : BatchFault) → May f → More f) → ((f : BatchFault) → B f → C f) → IfErr r (Fails (Unit {0}) May B n n) → IfErr r (Fails (Unit {0}) More C n n)
+err_as (Ok x) May B More C n may so h = tt
+err_as (Err e) May B More C n may so h = fails_as (Unit {0}) May More B C n n n e may (λ t. so) refl h
 
 -- an error of each count of faults
 pub err_each : {T E : Type 0} (P : ℕ → E → Type 0) (Q : E → Type 0) (r : Result T E) → ((n : ℕ) → IfErr r (P n)) → ((e : E) → ((n : ℕ) → P n e) → Q e) → IfErr r Q

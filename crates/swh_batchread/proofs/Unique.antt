@@ -27,7 +27,7 @@ use Rattle.swh_batchread.proofs.Headers.{one_header, header_then, line_no_feed}
 given_then : (g : Given) (x : List ℕ) → given_text g ++ x ≡ header_text (header_of g) ++ (g.made.body ++ 10 ∷ x)
 given_then g x = append_assoc (header_text (header_of g)) (g.made.body ++ 10 ∷ []) x ∙ ap (λ (t : List ℕ). header_text (header_of g) ++ t) (append_assoc g.made.body (10 ∷ []) x)
 
-given_not_nil : (g : Given) (x : List ℕ) → given_text g ++ x ≡ [] → ⊥
+pub given_not_nil : (g : Given) (x : List ℕ) → given_text g ++ x ≡ [] → ⊥
 given_not_nil g x e = not_nil (header_line (header_of g)) (g.made.body ++ 10 ∷ x) 10 (sym (header_then (header_of g) (g.made.body ++ 10 ∷ x)) ∙ sym (given_then g x) ∙ e)
 
 abbrev given : List ℕ → Kind → List ℕ → Given
@@ -233,7 +233,7 @@ module _ (id : Kind → List ℕ → List ℕ) where
 
   -- ## Whole objects
 
-  one_given : (g k : Given) (x y : List ℕ) → IsGiven id g → IsGiven id k → given_text g ++ x ≡ given_text k ++ y → (g ≡ k) × (x ≡ y)
+  pub one_given : (g k : Given) (x y : List ℕ) → IsGiven id g → IsGiven id k → given_text g ++ x ≡ given_text k ++ y → (g ≡ k) × (x ≡ y)
   one_given g k x y is js e =
       let heads = one_header (header_of g) (header_of k) (g.made.body ++ 10 ∷ x) (k.made.body ++ 10 ∷ y) is.header js.header (sym (given_then g x) ∙ e ∙ given_then k y) in
       let head = heads.0 in

@@ -13,17 +13,20 @@ use Rattle.swh_base.specs.declared.name.Name.{Name}
 use Rattle.swh_base.specs.declared.visit.Which.TheVariants.{Body, Stream, Line}
 use Rattle.swh_base.specs.Limits.{body_limit, line_limit}
 use Rattle.swh_base.specs.Name.{IsId}
+use Rattle.swh_base.specs.Snapshot.{snapshot_name}
+use Rattle.swh_made.specs.Whole.{names_of, AreWhole}
 use Rattle.swh_fastlex.specs.Line.{Held, unread}
 use Rattle.swh_fastlex.specs.declared.fault.LineFault.{LineFault}
 use Rattle.swh_fastlex.specs.declared.fault.LineFault.TheVariants.{Failed, End, Limit as Long, Memory as NoRoom}
 use Rattle.swh_batchread.specs.declared.fault.BatchFault.{BatchFault}
 use Rattle.swh_batchread.specs.declared.fault.BatchFault.TheVariants.{BadBatch, WrongName, BadRefs, NoObject, Limit, ReadFault, Memory}
+use Rattle.swh_batchread.specs.declared.names.Known.{Known}
 use Rattle.swh_batchread.specs.declared.names.Names.{Names}
 use Rattle.swh_batchread.specs.declared.ref_line.RefIn.{RefIn}
 use Rattle.swh_batchread.specs.declared.refs.Refs.{Refs}
 use Rattle.swh_batchread.specs.Batch.{input_limit}
 use Rattle.swh_batchread.specs.Refs.{RefLine, ref_line, ref_text, refs_text, refs_limit, ref_ids, kind_at, IsRefLine, IsNewRef, AreRefLines, kept_refs, counted_refs}
-use Rattle.swh_batchread.specs.RefsFault.{IsFirstLacking, LacksKid, Lacks}
+use Rattle.swh_batchread.specs.RefsFault.{IsFirstLacking, LacksKid, Lacks, kids_of}
 
 -- what is found in a line
 abbrev pub line_of : RefIn → RefLine
@@ -113,6 +116,22 @@ pub record KnowsNames (names : List Name) (known : Names) : Type 0 where
   pub first : (id : List ℕ) → kind_in known.first.entries id ≡ kind_at names id
   pub all : (name : Name) → Contains known.all name ↔ Contains names name
 
+-- what is known of objects: where each id leads, all names, and all children
+pub record Knowing : Type 0 where
+  pub first : List (List ℕ × Kind)
+  pub all : List Name
+  pub kids : List Name
+
+abbrev pub knowing : Known → Knowing
+knowing known = record { first = known.names.first.entries; all = known.names.all; kids = known.kids.items }
+
+-- These are the objects: each id leads to the kind of the first of them that has it, and their names are known, and their children
+-- in the order of the objects.
+pub record KnowsObjects (objects : List Entry) (k : Knowing) : Type 0 where
+  pub first : (id : List ℕ) → kind_in k.first id ≡ kind_at (names_of objects) id
+  pub all : (name : Name) → Contains k.all name ↔ Contains (names_of objects) name
+  pub kids : k.kids ≡ kids_of objects
+
 -- The first id that no object has, among those of the refs and then of the children.
 abbrev pub LacksIn : Names → List (List ℕ) → List Entry → List ℕ → Type 0
 LacksIn known ids objects id = IsFirstLacking (HasIdIn known.first.entries) ids id ⊎ (AllByRecursion (HasIdIn known.first.entries) ids × LacksKid known.all objects id)
@@ -147,3 +166,8 @@ pub record AreHeld (refs : Refs) : Type 0 where
 abbrev pub Ascend : List RefLine → Type 0
 Ascend [] = Unit {0}
 Ascend (r ∷ rs) = AllByRecursion (λ q. slice_cmp nat_cmp r.name q.name ≡ Less) rs × Ascend rs
+
+-- The objects have all of their children, and the snapshot of this id is one of them.
+pub record IsWholeWith (id : Kind → List ℕ → List ℕ) (objects : List Entry) (snapshot : List ℕ) : Type 0 where
+  pub whole : AreWhole id objects
+  pub root : Contains (names_of objects) (snapshot_name snapshot)

@@ -7,6 +7,7 @@
 #![tactic(auto)]
 
 mod fault;
+mod giving;
 mod header;
 mod laws;
 mod limits;
@@ -18,6 +19,7 @@ mod refs;
 mod snapshot;
 
 pub use fault::BatchFault;
+pub use giving::{BatchPart, BatchParts};
 pub use laws::{limit_of_input, limit_of_refs, one_batch, one_refs};
 pub use limits::{INPUT_LIMIT, REFS_LIMIT};
 pub use objects::read_batch;

@@ -1,11 +1,13 @@
 //! The names of the objects of a batch, and what is named and is none of them.
-ghost use Rattle.std.specs.Prelude.{◌++◌, ◌∷◌, [], ℕ, List, IfOk, IfErr, IfSome, IfNone, OnOk, Contains};
+ghost use Rattle.std.specs.Prelude.{◌≡◌, ◌++◌, ◌∷◌, [], ℕ, List, IfOk, IfErr, IfSome, IfNone, OnOk, IsErrOf, Contains};
 ghost use Rattle.std.specs.List.{AllByRecursion};
+ghost use Rattle.swh_base.specs.declared.entry.Entry.{Entry};
 ghost use Rattle.swh_base.specs.declared.name.Name.{Name as AnyName};
 ghost use Rattle.swh_object.specs.Object.{IsObject};
 ghost use Rattle.swh_made.specs.Whole.{names_of, HasChildrenAmong};
+ghost use Rattle.swh_batchread.specs.declared.fault.BatchFault.TheVariants.{ReadFault as NotRead};
 ghost use Rattle.swh_batchread.specs.Failing.{Fails};
-ghost use Rattle.swh_batchread.specs.RefSteps.{LeadsFirst, KnowsNames, HasIdIn, LacksIn, LacksSome};
+ghost use Rattle.swh_batchread.specs.RefSteps.{LeadsFirst, KnowsNames, KnowsObjects, knowing, HasIdIn, LacksIn, LacksSome};
 ghost use Rattle.swh_batchread.specs.RefsFault.{IsFirstLacking, MayBreakSnapshot, kids_of};
 
 use crate::fault::BatchFault;
@@ -53,17 +55,45 @@ fn add_name(names: &mut Names, name: Name) -> Result<(), Memory>
     Ok(())
 }
 
-/// The names of these objects.
-fn names_of<N: Namer>(alloc: Global, objects: &[Object<N>]) -> Result<Names, Memory>
-    ensures names { IfOk result (KnowsNames (names_of objects.now)) }
+/// What is known of objects: their names, and the names of their children, in the order of the objects.
+#[derive(Drop)]
+pub struct Known {
+    pub names: Names,
+    pub kids: Vec<Name>,
+}
+
+/// No object is known.
+pub fn no_objects(alloc: Global) -> Known
+    ensures { KnowsObjects [] (knowing result) }
+{
+    Known {
+        names: no_names(alloc),
+        kids: Vec::new(alloc),
+    }
+}
+
+/// Adds an object behind those that are known.
+pub fn add_object<N: Namer>(known: &mut Known, object: &Object<N>) -> Result<(), Memory>
+    ensures { (before : List Entry) → KnowsObjects before (knowing known.old)
+        → OnOk result (KnowsObjects (before ++ object.now ∷ []) (knowing known.new)) }
+{
+    let name = object.name();
+    add_name(&mut known.names, name)?;
+    known.kids.extend_from_slice(object.children())?;
+    Ok(())
+}
+
+/// What is known of these objects.
+pub fn known_of<N: Namer>(alloc: Global, objects: &[Object<N>]) -> Result<Known, Memory>
+    ensures known { IfOk result (λ known. KnowsObjects objects.now (knowing known)) }
     ensures good { OnOk result (AllByRecursion (IsObject N.id_of) objects.now) }
 {
-    let mut names = no_names(alloc);
+    let mut known = no_objects(alloc);
     for object in objects {
-        let name = object.name();
-        add_name(&mut names, name)?;
+        let _name = object.name();
+        add_object(&mut known, object)?;
     }
-    Ok(names)
+    Ok(known)
 }
 
 /// The first of these ids that no name has.
@@ -92,50 +122,35 @@ fn lacking_name(names: &Closed, kids: &[Name]) -> Option<Name>
     None
 }
 
-/// The first child of these objects, in their order, that is not among the names.
-fn lacking_kid<N: Namer>(names: &Closed, objects: &[Object<N>]) -> Option<Name>
-    ensures some { IfSome result (IsFirstLacking (Contains names.now) (kids_of objects.now)) }
-    ensures none { IfNone result (AllByRecursion (HasChildrenAmong names.now) objects.now) }
+/// The first id that no name has, among those of refs and then of the children that are known; a child's name has its kind
+/// too.
+fn lacking(known: &Known, ids: &[[u8; 20]]) -> Option<[u8; 20]>
+    ensures some { (objects : List Entry) → known.now.kids.items ≡ kids_of objects
+        → IfSome result (LacksIn known.now.names ids.now objects) }
+    ensures refs { IfNone result (AllByRecursion (HasIdIn known.now.names.first.entries) ids.now) }
+    ensures kids { IfNone result (AllByRecursion (Contains known.now.names.all) known.now.kids.items) }
 {
-    for object in objects {
-        if let Some(kid) = lacking_name(names, object.children()) {
-            return Some(kid);
-        }
-    }
-    None
-}
-
-/// The first id that no name has, among those of refs and then of the children of objects; a child's name has its kind too.
-fn lacking<N: Namer>(names: &Names, ids: &[[u8; 20]], objects: &[Object<N>]) -> Option<[u8; 20]>
-    ensures some { IfSome result (LacksIn names.now ids.now objects.now) }
-    ensures refs { IfNone result (AllByRecursion (HasIdIn names.now.first.entries) ids.now) }
-    ensures kids { IfNone result (AllByRecursion (HasChildrenAmong names.now.all) objects.now) }
-{
-    if let Some(id) = lacking_id(&names.first, ids) {
+    if let Some(id) = lacking_id(&known.names.first, ids) {
         return Some(id);
     }
-    match lacking_kid(&names.all, objects) {
+    match lacking_name(&known.names.all, known.kids.as_slice()) {
         Some(kid) => Some(kid.id),
         None => None,
     }
 }
 
-/// The names of these objects, where these ids of refs and all children of the objects are among them.
-pub fn whole_names<N: Namer>(
-    alloc: Global,
-    ids: &[[u8; 20]],
-    objects: &[Object<N>],
-) -> Result<Names, BatchFault>
-    ensures names { IfOk result (KnowsNames (names_of objects.now)) }
-    ensures ids { IfOk result (λ names. AllByRecursion (HasIdIn names.first.entries) ids.now) }
-    ensures kids { IfOk result (λ names. AllByRecursion (HasChildrenAmong names.all) objects.now) }
-    ensures good { OnOk result (AllByRecursion (IsObject N.id_of) objects.now) }
-    ensures err { (faults : ℕ) → IfErr result (Fails (Unit {0}) (MayBreakSnapshot objects.now)
-        (LacksSome (names_of objects.now) ids.now objects.now) faults faults) }
+/// Checks that these ids of refs and all children of the objects that are known are among the names of these objects.
+pub fn check_names(known: &Known, ids: &[[u8; 20]]) -> Result<(), BatchFault>
+    ensures ids { OnOk result (AllByRecursion (HasIdIn known.now.names.first.entries) ids.now) }
+    ensures kids { (objects : List Entry) → KnowsObjects objects (knowing known.now)
+        → OnOk result (AllByRecursion (HasChildrenAmong known.now.names.all) objects) }
+    ensures err { (objects : List Entry) → KnowsObjects objects (knowing known.now) → (faults : ℕ)
+        → IfErr result (Fails (Unit {0}) (MayBreakSnapshot objects) (LacksSome (names_of objects) ids.now objects)
+        faults faults) }
+    ensures quiet { IsErrOf result NotRead → ⊥ }
 {
-    let names = names_of(alloc, objects)?;
-    match lacking(&names, ids, objects) {
+    match lacking(known, ids) {
         Some(id) => Err(BatchFault::NoObject { id }),
-        None => Ok(names),
+        None => Ok(()),
     }
 }

@@ -63,7 +63,7 @@ fn named_object<N: Namer>(
 }
 
 /// The next object; none where nothing is to be read.
-fn next_object<N: Namer, S: Source>(
+pub fn next_object<N: Namer, S: Source>(
     alloc: Global,
     namer: &N,
     window: &mut Window,

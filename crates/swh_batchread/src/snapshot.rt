@@ -1,9 +1,10 @@
 //! The snapshot of refs and of the objects of a batch (SWHID v1.2, core identifiers, snapshots).
-ghost use Rattle.std.specs.Prelude.{◌≡◌, ◌≤◌, ◌+◌, ◌^◌, ◌++◌, ◌∷◌, [], ℕ, List, IfOk, IfErr, OnOk, MatchResult, length, map};
-ghost use Rattle.std.specs.List.{filter_map};
+ghost use Rattle.std.specs.Prelude.{◌≡◌, ◌≤◌, ◌+◌, ◌^◌, ◌++◌, ◌∷◌, [], ℕ, List, IfOk, IfErr, OnOk, IsErrOf, MatchResult, length, map};
+ghost use Rattle.std.specs.List.{AllByRecursion, filter_map};
 ghost use Rattle.swh_base.specs.Name.{IsId};
 ghost use Rattle.swh_base.specs.declared.kind.Kind.TheVariants.{Snapshot};
-ghost use Rattle.swh_base.specs.Snapshot.{AreBranches, branch_text, snapshot_text};
+ghost use Rattle.swh_base.specs.Snapshot.{AreBranches, branch_text, snapshot_name, snapshot_text};
+ghost use Rattle.swh_base.specs.declared.entry.Entry.{Entry};
 ghost use Rattle.swh_outside.specs.Views.{sources};
 ghost use Rattle.swh_object.specs.Object.{IsObject};
 ghost use Rattle.swh_snpfmt.specs.Branches.{branch_views};
@@ -12,12 +13,12 @@ ghost use Rattle.swh_made.specs.Whole.{HasAllThatIsReached};
 ghost use Rattle.swh_fastlex.specs.ReadOn.{IsReadOn};
 ghost use Rattle.swh_batchread.specs.declared.fault.BatchFault.TheVariants.{ReadFault as NotRead};
 ghost use Rattle.swh_batchread.specs.Failing.{Fails};
-ghost use Rattle.swh_batchread.specs.Refs.{RefLine, branch_to, branch_with, AreRefLines, GivesSnapshot, EndsWithSnapshot};
+ghost use Rattle.swh_batchread.specs.Refs.{RefLine, branch_to, branch_with, AreRefLines, GivesSnapshot, EndsWithSnapshot, MeansRefs};
 ghost use Rattle.swh_batchread.specs.RefsFault.{SnapshotBreaks, MayBreakSnapshot, MeansRefsLeft, ExplainsRefs};
-ghost use Rattle.swh_batchread.specs.RefSteps.{line_at, kind_in, AreHeld, Ascend, Holds, PassesBody};
+ghost use Rattle.swh_batchread.specs.RefSteps.{line_at, kind_in, AreHeld, Ascend, Holds, IsWholeWith, KnowsObjects, knowing, PassesBody};
 
 use crate::fault::BatchFault;
-use crate::names::whole_names;
+use crate::names::{Known, check_names, known_of};
 use crate::refs::{Refs, read_lines};
 use std::alloc::Global;
 use std::collections::BTreeMap;
@@ -151,31 +152,55 @@ fn with_snapshot<N: Namer>(
     })
 }
 
-/// The objects, and behind them the snapshot of refs.
+/// The snapshot of refs and of the objects that are known.
 fn end_refs<N: Namer>(
     alloc: Global,
     namer: &N,
     refs: Refs,
-    objects: Vec<Object<N>>,
-) -> Result<Objects<N>, BatchFault>
+    known: &Known,
+) -> Result<Object<N>, BatchFault>
     requires { AreHeld refs }
-    ensures ok { (rs : List RefLine) → AreRefLines rs → Holds rs refs
-        → IfOk result (λ given. GivesSnapshot rs objects.items given.objects.items given.snapshot) }
-    ensures kept { IfOk result (λ given. EndsWithSnapshot objects.items given.objects.items given.snapshot) }
-    ensures whole { IfOk result (HasAllThatIsReached N.id_of) }
-    ensures err { (rs : List RefLine) → AreRefLines rs → Holds rs refs → (faults : ℕ)
-        → IfErr result (Fails (Unit {0}) (MayBreakSnapshot objects.items)
-        (SnapshotBreaks rs objects.items) faults faults) }
+    ensures ok { (objects : List Entry) → KnowsObjects objects (knowing known.now) → (rs : List RefLine) → AreRefLines rs
+        → Holds rs refs → IfOk result (λ o. GivesSnapshot rs objects (objects ++ o ∷ []) o.name.id) }
+    ensures named { IfOk result (λ o. o.name ≡ snapshot_name o.name.id) }
+    ensures whole { (objects : List Entry) → KnowsObjects objects (knowing known.now) → AllByRecursion (IsObject N.id_of) objects
+        → IfOk result (λ o. IsWholeWith N.id_of (objects ++ o ∷ []) o.name.id) }
+    ensures err { (objects : List Entry) → KnowsObjects objects (knowing known.now) → (rs : List RefLine) → AreRefLines rs
+        → Holds rs refs → (faults : ℕ) → IfErr result (Fails (Unit {0}) (MayBreakSnapshot objects)
+        (SnapshotBreaks rs objects) faults faults) }
+    ensures quiet { IsErrOf result NotRead → ⊥ }
 {
     let Refs {
         ids,
         by_name,
         counted: _,
     } = refs;
-    let names = whole_names(alloc, ids.as_slice(), objects.as_slice())?;
-    let listing = branches_of(alloc, &names.first, by_name)?;
-    let snapshot = snapshot_of(alloc, namer, listing)?;
-    Ok(with_snapshot(objects, snapshot)?)
+    check_names(known, ids.as_slice())?;
+    let listing = branches_of(alloc, &known.names.first, by_name)?;
+    snapshot_of(alloc, namer, listing)
+}
+
+/// The snapshot of the refs that are left of a source, for the objects that are known.
+pub fn read_snapshot<N: Namer, S: Source>(
+    alloc: Global,
+    namer: &N,
+    source: &mut S,
+    known: &Known,
+) -> Result<Object<N>, BatchFault>
+    ensures ok { S.tells → (objects : List Entry) → KnowsObjects objects (knowing known.now)
+        → IfOk result (λ o. MeansRefs (S.left source.old) objects (objects ++ o ∷ []) o.name.id) }
+    ensures named { IfOk result (λ o. o.name ≡ snapshot_name o.name.id) }
+    ensures whole { (objects : List Entry) → KnowsObjects objects (knowing known.now) → AllByRecursion (IsObject N.id_of) objects
+        → IfOk result (λ o. IsWholeWith N.id_of (objects ++ o ∷ []) o.name.id) }
+    ensures read { S.tells → IfOk result (λ _. S.left source.new ≡ []) }
+    ensures err { (objects : List Entry) → KnowsObjects objects (knowing known.now)
+        → IfErr result (ExplainsRefs (sources S.tells S.left S.faults S.path) source.old objects source.new) }
+
+    ensures on { IsReadOn S.path S.faults source.old source.new NotRead result }
+{
+    let mut window = Window::new(alloc)?;
+    let refs = read_lines(alloc, &mut window, source)?;
+    end_refs(alloc, namer, refs, known)
 }
 
 /// The objects of a batch, and behind them the snapshot of the refs that are left of a source (git-show-ref(1), with
@@ -210,7 +235,7 @@ pub fn read_refs<N: Namer, S: Source>(
 
     ensures on { IsReadOn S.path S.faults source.old source.new NotRead result }
 {
-    let mut window = Window::new(alloc)?;
-    let refs = read_lines(alloc, &mut window, source)?;
-    end_refs(alloc, namer, refs, objects)
+    let known = known_of(alloc, objects.as_slice())?;
+    let snapshot = read_snapshot(alloc, namer, source, &known)?;
+    Ok(with_snapshot(objects, snapshot)?)
 }

@@ -43,9 +43,30 @@ fn body_above_the_limit(rt: HostRuntime) -> Result<(), Fail> {
     Ok(())
 }
 
-/// A header of 55 bytes whose body is above the limit, and 45 bytes behind it.
-const LONG: &[u8] = b"e69de29bb2d1d6434b8b29ae775ad8c2e48c5391 blob 67108865\n\
-xxxxxxxxxxxxxxxxxxxxxxxxxxxxxxxxxxxxxxxxxxxx\n";
+/// Batches that are refused, and how many bytes are left of them then, where a read gives one byte at most.
+const REFUSED: &[(&[u8], u64)] = &[
+    // A line that is no header.
+    (b"x\nbehind", 6),
+    // A body above the limit, of which nothing is read.
+    (
+        b"e69de29bb2d1d6434b8b29ae775ad8c2e48c5391 blob 67108865\nbehind",
+        6,
+    ),
+    // Another byte where the LF behind the body stands.
+    (
+        b"c1b0730e0133447badcfd47fd144e254807b06e1 blob 1\nxybehind",
+        6,
+    ),
+    // A body that is none of its kind, and one of another name.
+    (
+        b"4b825dc642cb6eb9a060e54bf8d69288fbee4904 tree 1\nx\nbehind",
+        6,
+    ),
+    (
+        b"e69de29bb2d1d6434b8b29ae775ad8c2e48c5392 blob 0\n\nbehind",
+        6,
+    ),
+];
 
 /// How many bytes a source still gives, one by one, 100 at most.
 fn count_left(source: &mut MemorySource) -> Result<u64, Failed> {
@@ -58,13 +79,20 @@ fn count_left(source: &mut MemorySource) -> Result<u64, Failed> {
     Ok(100)
 }
 
-#[test]
-fn long_body_unread(rt: HostRuntime) -> Result<(), Fail> {
-    let alloc = rt.alloc();
-    let bytes = Vec::from_slice(alloc, LONG)?;
+/// How many bytes are left of a batch that is refused; none is told where it is not.
+fn left_behind(alloc: Global, batch: &[u8]) -> Result<Option<u64>, AllocError> {
+    let bytes = Vec::from_slice(alloc, batch)?;
     let mut source = MemorySource::new(String::new(alloc), bytes, 1, Vec::new(alloc));
     let refused = read_batch(alloc, &Sha1Namer, &mut source).is_err();
-    assert!(&rt; refused);
-    assert_eq!(&rt; count_left(&mut source), Ok(45));
+    let left = count_left(&mut source);
+    Ok(if refused { left.ok() } else { None })
+}
+
+#[test]
+fn nothing_read_behind(rt: HostRuntime) -> Result<(), Fail> {
+    for (number, (batch, left)) in REFUSED.iter().enumerate() {
+        let found = left_behind(rt.alloc(), batch)?;
+        assert_eq!(&rt; found, Some(*left), "row {number}");
+    }
     Ok(())
 }

@@ -1,4 +1,4 @@
-use Rattle.std.proofs.Common.{ℕ, ◌∙◌, subst, arith}
+use Rattle.std.proofs.Common.{ℕ, ◌∙◌, subst}
 use Rattle.swh_fastlex.specs.Line.{unread}
 use Rattle.swh_batchread.specs.BatchFault.{MayBreakBatch, ObjectBreaks, BreaksBehind, BreaksHere}
 use Rattle.swh_batchread.proofs.ReadsOn.{not_read, left_by}
@@ -27,7 +27,7 @@ pub returns-in_err-object-clause-on : goal.returns-in_err-object-clause-on
 returns-in_err-object-clause-on g c =
     let head = c.in_ok-header.ensures.on in
     let body = c.in_ok-body.ensures.on in
-    left_by g.S.Source.path g.S.Source.faults c.args.source.now c.next_body.new.source c.from_residual-in_err-object.result (body.same_path ∙ head.same_path) c.in_err-object.field-0.0 c.from_residual-in_err-object.ensures.1 (omega (arith, head.quiet, body.quiet))
+    left_by g.S.Source.path g.S.Source.faults c.args.source.now c.next_body.new.source c.from_residual-in_err-object.result (body.same_path ∙ head.same_path) c.in_err-object.field-0.0 c.from_residual-in_err-object.ensures.1 (body.quiet (λ e. cc) ∙ head.quiet (λ e. cc))
     (not_read MayBreakBatch (ObjectBreaks g.N.Namer.id_of c.place-start.result c.in-Some.header c.in_ok-body.body.items) c.in_err-object.field-0.0 c.in_err-object.ensures.err)
 
 pub returns-clause-taken : goal.returns-clause-taken

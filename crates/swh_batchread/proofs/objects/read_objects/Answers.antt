@@ -20,5 +20,5 @@ objects-preserved g c =
           let took = c.in_ok-object.ensures.taken told in
           read_more g.N.Namer.id_of (g.S.Source.left c.args.source.now) c.objects.window c.next_object.new.window (g.S.Source.left c.objects.source) (g.S.Source.left c.next_object.new.source) c.objects.seen c.keep.new.seen (made_from c.in-Some.object) (c.objects.invariant.read told) (rw c.in-Some.is at took) low c.in_ok-keep.ensures.keeps;
       same_path = c.in_ok-object.ensures.on.same_path ∙ c.objects.invariant.same_path;
-      quiet = c.in_ok-object.ensures.on.quiet ∙ c.objects.invariant.quiet;
+      quiet = c.in_ok-object.ensures.on.quiet (λ e. cc) ∙ c.objects.invariant.quiet;
     }

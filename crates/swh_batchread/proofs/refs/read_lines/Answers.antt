@@ -31,7 +31,7 @@ pub returns-in_err-take_line-clause-on : goal.returns-in_err-take_line-clause-on
 returns-in_err-take_line-clause-on g c =
     let h = c.lines.invariant.has in
     let next = c.in_ok-line.ensures.on in
-    left_by g.S.Source.path g.S.Source.faults c.args.source.now c.next_row.new.source c.from_residual-in_err-take_line.result (next.same_path ∙ c.lines.invariant.same_path) c.in_err-take_line.field-0.0 c.from_residual-in_err-take_line.ensures.1 (omega (arith, next.quiet, c.lines.invariant.quiet))
+    left_by g.S.Source.path g.S.Source.faults c.args.source.now c.next_row.new.source c.from_residual-in_err-take_line.result (next.same_path ∙ c.lines.invariant.same_path) c.in_err-take_line.field-0.0 c.from_residual-in_err-take_line.ensures.1 (next.quiet (λ e. cc) ∙ c.lines.invariant.quiet)
     (not_read MayBreakLines (RefBreaks h.lines c.lines.number c.as_slice.result.now) c.in_err-take_line.field-0.0 (λ n. c.in_err-take_line.ensures.err h.lines h.held n))
 
 pub lines-preserved : goal.lines-preserved
@@ -50,5 +50,5 @@ lines-preserved g c =
           line_more g.S.Source.tells (g.S.Source.left c.args.source.now) c.lines.window c.next_row.new.window (g.S.Source.left c.lines.source) (g.S.Source.left c.next_row.new.source) c.in-Some.line.items c.lines.number c.lines.refs c.take_line.new.refs h takes
           (λ told. let took = c.in_ok-line.ensures.taken told in rw c.in-Some.is at took) counted low;
       same_path = c.in_ok-line.ensures.on.same_path ∙ c.lines.invariant.same_path;
-      quiet = c.in_ok-line.ensures.on.quiet ∙ c.lines.invariant.quiet;
+      quiet = c.in_ok-line.ensures.on.quiet (λ e. cc) ∙ c.lines.invariant.quiet;
     }

@@ -1,36 +1,30 @@
-use Rattle.std.proofs.Common.{inl, inr, refl}
-use Rattle.swh_batchread.specs.Failing.{Fails}
-use Rattle.swh_batchread.specs.RefsFault.{BreaksLines, SnapshotBreaks, BreaksRefs, MayBreakLines, MayBreakSnapshot, MayBreakRefs}
-use Rattle.swh_batchread.proofs.Breaking.{fails_as}
-use Rattle.swh_batchread.proofs.ReadsOn.{never_read, ended_by}
-use Rattle.swh_batchread.proofs.Reaching.{exits, object_fails}
-use Rattle.swh_batchread.proofs.SnapshotMade.{err_each}
+use Rattle.std.proofs.Common.{List, ap, sym, ◌∙◌, subst}
+use Rattle.swh_base.specs.declared.entry.Entry.{Entry}
+use Rattle.swh_base.specs.Snapshot.{snapshot_name}
+use Rattle.swh_outside.specs.Views.{sources}
+use Rattle.swh_batchread.specs.RefsFault.{ExplainsRefs}
+use Rattle.swh_batchread.proofs.Reaching.{exits}
+use Rattle.swh_batchread.proofs.SnapshotMade.{means_as, whole_as}
 use Rattle.swh_batchread.proofs.snapshot.read_refs.Goals as goal
 
-pub returns-clause-err : goal.returns-clause-err
-returns-clause-err g c =
-    let gives = c.in_ok-refs.ensures.ok in
-    let objects = c.args.objects.items in
-    let left = g.S.Source.left c.args.source.now in
-    let old = g.S.Source.faults c.args.source.now in
-    let new = g.S.Source.faults c.read_lines.new.source in
-    err_each (λ n. Fails (Unit {0}) (MayBreakSnapshot objects) (SnapshotBreaks gives.lines objects) n n) (Fails g.S.Source.tells (MayBreakRefs objects) (BreaksRefs left objects) old new) c.end_refs.result (c.end_refs.ensures.err gives.lines gives.are gives.held)
-    (λ e h.
-    fails_as g.S.Source.tells (MayBreakSnapshot objects) (MayBreakRefs objects) (BreaksRefs left objects) (BreaksRefs left objects) old old new e (λ f m. inr m) (λ t f b. b) refl
-    (object_fails g.S.Source.tells (MayBreakSnapshot objects) (SnapshotBreaks gives.lines objects) (BreaksRefs left objects) old new e (λ t fault b. inr (gives.lines, record { are = gives.are; spelled = gives.told t }, b)) h))
+pub returns-clause-ok : goal.returns-clause-ok
+returns-clause-ok g c = λ told.
+    means_as (g.S.Source.left c.args.source.now) c.args.objects.items c.as_slice.result.now _ c.in_ok-snapshot.snapshot _ c.as_slice.ensures.value c.in_ok-with_snapshot.ensures.objects c.in_ok-with_snapshot.ensures.id
+    (c.in_ok-snapshot.ensures.ok told c.as_slice.result.now c.in_ok-known.ensures.known)
 
-pub returns-clause-on : goal.returns-clause-on
-returns-clause-on g c =
-    let gives = c.in_ok-refs.ensures.ok in
-    let lines = c.in_ok-refs.ensures.on in
-    ended_by g.S.Source.path g.S.Source.faults c.args.source.now c.read_lines.new.source c.end_refs.result lines.same_path lines.quiet
-    (never_read (MayBreakSnapshot c.args.objects.items) (SnapshotBreaks gives.lines c.args.objects.items) c.end_refs.result (c.end_refs.ensures.err gives.lines gives.are gives.held))
+pub returns-clause-kept : goal.returns-clause-kept
+returns-clause-kept g c = record {
+  snapshot = c.in_ok-snapshot.snapshot;
+  objects_are = c.in_ok-with_snapshot.ensures.objects;
+  named = c.in_ok-snapshot.ensures.named ∙ ap snapshot_name (sym c.in_ok-with_snapshot.ensures.id);
+}
 
-pub returns-in_err-refs-clause-err : goal.returns-in_err-refs-clause-err
-returns-in_err-refs-clause-err g c =
-    let objects = c.args.objects.items in
-    let left = g.S.Source.left c.args.source.now in
-    let old = g.S.Source.faults c.args.source.now in
-    let new = g.S.Source.faults c.read_lines.new.source in
-    exits c.from_residual-in_err-refs.result _ c.in_err-refs.field-0.0 c.from_residual-in_err-refs.ensures.1
-    (fails_as g.S.Source.tells MayBreakLines (MayBreakRefs objects) (BreaksLines left) (BreaksRefs left objects) old old new c.in_err-refs.field-0.0 (λ f m. inl m) (λ t f b. inl b) refl c.in_err-refs.ensures.err)
+pub returns-clause-whole : goal.returns-clause-whole
+returns-clause-whole g c =
+    whole_as g.N.Namer.id_of c.args.objects.items c.as_slice.result.now c.in_ok-snapshot.snapshot c.in_ok-with_snapshot.field-0 c.as_slice.ensures.value c.in_ok-with_snapshot.ensures.objects c.in_ok-with_snapshot.ensures.id
+    (c.in_ok-snapshot.ensures.whole c.as_slice.result.now c.in_ok-known.ensures.known c.in_ok-known.ensures.good)
+
+pub returns-in_err-snapshot-clause-err : goal.returns-in_err-snapshot-clause-err
+returns-in_err-snapshot-clause-err g c =
+    exits c.from_residual-in_err-snapshot.result _ c.in_err-snapshot.field-0.0 c.from_residual-in_err-snapshot.ensures.1
+    (subst (λ (es : List Entry). ExplainsRefs (sources g.S.Source.tells g.S.Source.left g.S.Source.faults g.S.Source.path) c.args.source.now es c.read_snapshot.new.source c.in_err-snapshot.field-0.0) c.as_slice.ensures.value (c.in_err-snapshot.ensures.err c.as_slice.result.now c.in_ok-known.ensures.known))
