@@ -5,3 +5,4 @@ pub mod Names
 pub mod IdTexts
 pub mod Unique
 pub mod Listed
+pub mod Shown

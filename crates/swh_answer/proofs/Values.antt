@@ -21,13 +21,6 @@ use Rattle.swh_answer.specs.Json.{id_data, optional_id_data, visit_data, visits_
 
 -- ---- lists
 
--- one more value, of the next item of a list
-pub one_more_item : (f : Visit → Data) (all : List Visit) (vs : List Value) (i n : ℕ) (v : Value) (x : Visit) → map view vs ≡ map f (take i all) → i < length all → x ≡ get_or all i x → n ≡ i + 1 → view v ≡ f x
-    → map view (vs ++ v ∷ []) ≡ map f (take n all)
-one_more_item f all vs i n v x so_far less is next here =
-    let more : take n all ≡ take i all ++ x ∷ [] = ap (λ (m : ℕ). take m all) next ∙ take_more all i x less ∙ ap (λ (y : Visit). take i all ++ y ∷ []) (sym is) in
-    map_push view vs v ∙ ap₂ (λ (ds : List Data) (d : Data). ds ++ d ∷ []) so_far here ∙ sym (map_push f (take i all) x) ∙ ap (map f) (sym more)
-
 items-no_float : {X : Type 0} (f : X → Data) (xs : List X) → ((x : X) → has_float (f x) ≡ false) → items_have_float (items_of (map f xs)) ≡ false
 items-no_float f [] h = refl
 items-no_float f (x ∷ xs) h = ap (λ (b : Bool). b || items_have_float (items_of (map f xs))) (h x) ∙ items-no_float f xs h
@@ -81,32 +74,11 @@ one_more_name bodies all i d old new so_far less is =
 
 -- ---- values
 
-optional-no_float : (id : Option (List ℕ)) → has_float (optional_id_data id) ≡ false
-optional-no_float None = refl
-optional-no_float (Some id) = refl
-
-visit-no_float : (origin : List ℕ) (v : Visit) → has_float (visit_data origin v) ≡ false
-visit-no_float origin v = rw (optional-no_float (last_mark v.statuses).1)
-
-pub visits-no_float : (origin : List ℕ) (visits : List Visit) → has_float (visits_data origin visits) ≡ false
-visits-no_float origin visits = items-no_float (visit_data origin) (reverse visits) (visit-no_float origin)
-
 pub revision-no_float : (id : List ℕ) (r : Revision) → has_float (revision_data id r) ≡ false
 revision-no_float id r = rw (items-no_float id_data r.parents (λ x. refl))
 
 pub log-no_float : (names : List Name) → has_float (log_data names) ≡ false
 log-no_float names = items-no_float (λ (n : Name). id_data n.id) names (λ x. refl)
-
-target-no_float : (target : BranchTarget) → has_float (target_data target) ≡ false
-target-no_float (ToObject n) = refl
-target-no_float (ToBranch name) = refl
-target-no_float ToNothing = refl
-
-branches-no_float : (branches : List SnapshotBranch) → members_have_float (branches_data branches) ≡ false
-branches-no_float branches = members-no_float (λ (b : SnapshotBranch). escaped b.name) (λ (b : SnapshotBranch). target_data b.target) branches no_members (λ b. target-no_float b.target) refl
-
-pub snapshot-no_float : (id : List ℕ) (branches : List SnapshotBranch) → has_float (snapshot_data id branches) ≡ false
-snapshot-no_float id branches = rw (branches-no_float branches)
 
 pub known-no_float : (bodies : Bodies) (names : List Name) → has_float (known_data bodies names) ≡ false
 known-no_float bodies names = members-no_float core_text (is_known_data bodies) names no_members (λ n. refl) refl

@@ -1,21 +1,17 @@
 // Artifacts as JSON.
-ghost use Rattle.std.specs.Prelude.{◌≡◌, IfOk, OnOk};
-ghost use Rattle.serde_json.specs.Data.{object, put as put_member};
-ghost use Rattle.serde_json.specs.View.{view, members_view};
-ghost use Rattle.swh_base.specs.Escape.{escaped};
+ghost use Rattle.std.specs.Prelude.{◌≡◌, IfOk};
+ghost use Rattle.serde_json.specs.View.{view};
 ghost use Rattle.swh_dirfmt.specs.Entries.{entry_view};
 ghost use Rattle.swh_revfmt.specs.Reading.{revision_spelled, release_spelled};
-ghost use Rattle.swh_snpfmt.specs.Branches.{target_spelled, branches_in_body};
-ghost use Rattle.swh_answer.specs.Json.{revision_data, log_data, release_data, entry_data, target_data, target_members, branches_data, snapshot_data, content_data, resolved_data};
+ghost use Rattle.swh_answer.specs.Json.{revision_data, log_data, release_data, entry_data, content_data, resolved_data};
 
 use crate::value::{id_value, ids_value, text_value};
 use crate::words::{core_string, entry_type, perms_of, word_of_kind};
-use serde_json::{Map, Value, json, put};
+use serde_json::{Value, json};
 use std::alloc::{AllocError, Global};
-use swh_base::{Name, escape};
+use swh_base::Name;
 use swh_dirfmt::DirEntry;
 use swh_revfmt::{SpelledRel, SpelledRev};
-use swh_snpfmt::{SpelledBranch, SpelledTarget};
 
 /// A revision: its directory, its parents in order, and the rest of its body.
 pub fn revision_value(
@@ -68,65 +64,6 @@ pub fn entry_value(alloc: Global, entry: &DirEntry) -> Result<Value, AllocError>
     let perms = perms_of(entry.mode);
     let kind = entry_type(entry.mode);
     json!(in alloc; {"name": name, "perms": perms, "target": target, "type": kind})
-}
-
-fn target_object(alloc: Global, target: Value, kind: &str) -> Result<Value, AllocError>
-    ensures { IfOk result (λ value. view value ≡ target_members (view target) kind.now) }
-{
-    json!(in alloc; {"target": target, "target_type": kind})
-}
-
-fn target_value(alloc: Global, target: &SpelledTarget<'_>) -> Result<Value, AllocError>
-    ensures { IfOk result (λ value. view value ≡ target_data (target_spelled target.now)) }
-{
-    match target {
-        SpelledTarget::Object(kind, id) => {
-            let target = id_value(alloc, *id)?;
-            target_object(alloc, target, word_of_kind(*kind))
-        }
-        SpelledTarget::Alias(name) => {
-            let target = text_value(alloc, name)?;
-            target_object(alloc, target, "alias")
-        }
-        SpelledTarget::Dangling => Ok(Value::Null),
-    }
-}
-
-// One more branch, at its escaped name.
-fn put_branch(
-    alloc: Global,
-    members: &mut Map<String, Value>,
-    branch: &SpelledBranch<'_>,
-) -> Result<(), AllocError>
-    ensures { OnOk result (members_view members.new.entries ≡ put_member (escaped branch.now.name.now)
-        (target_data (target_spelled branch.now.target)) (members_view members.old.entries)) }
-{
-    let name = escape(alloc, branch.name)?;
-    let target = target_value(alloc, &branch.target)?;
-    put(members, alloc, name.as_str(), target)
-}
-
-fn branches_value(alloc: Global, branches: &[SpelledBranch<'_>]) -> Result<Value, AllocError>
-    ensures { IfOk result (λ value. view value ≡ object (branches_data (branches_in_body branches.now))) }
-{
-    let mut members = Map::new(alloc);
-    for branch in branches {
-        put_branch(alloc, &mut members, branch)?;
-    }
-    Ok(Value::Object(members))
-}
-
-/// A snapshot: its branches by their escaped names.
-pub fn snapshot_value(
-    alloc: Global,
-    id: &[u8; 20],
-    branches: &[SpelledBranch<'_>],
-) -> Result<Value, AllocError>
-    ensures { IfOk result (λ value. view value ≡ snapshot_data id.now (branches_in_body branches.now)) }
-{
-    let branches = branches_value(alloc, branches)?;
-    let own = id_value(alloc, id)?;
-    json!(in alloc; {"branches": branches, "id": own})
 }
 
 /// The length of a body, and the core identifier of its name.

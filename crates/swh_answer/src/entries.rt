@@ -5,6 +5,7 @@ ghost use Rattle.swh_dirfmt.specs.Entries.{entry_of, entries_in_body};
 ghost use Rattle.swh_answer.specs.Json.{entry_data, directory_data, tree_reply};
 ghost use Rattle.swh_answer.specs.Writes.{WritesValue};
 
+use crate::members::{put_number, put_text};
 use crate::words::{entry_type, perms_of};
 use json::Writer;
 use std::alloc::{AllocError, Global};
@@ -17,14 +18,10 @@ fn put_entry(alloc: Global, writer: &mut Writer, entry: &SpelledEntry<'_>) -> Re
     let name = escape(alloc, entry.name)?;
     let target = hex::encode(alloc, entry.id)?;
     writer.begin_object()?;
-    writer.key("name")?;
-    writer.string(name.as_str())?;
-    writer.key("perms")?;
-    writer.u64(perms_of(entry.mode) as u64)?;
-    writer.key("target")?;
-    writer.string(target.as_str())?;
-    writer.key("type")?;
-    writer.string(entry_type(entry.mode))?;
+    put_text(writer, "name", name.as_str())?;
+    put_number(writer, "perms", perms_of(entry.mode) as u64)?;
+    put_text(writer, "target", target.as_str())?;
+    put_text(writer, "type", entry_type(entry.mode))?;
     writer.end_object()
 }
 

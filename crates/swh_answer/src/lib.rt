@@ -6,9 +6,11 @@
 
 mod artifacts;
 mod asked;
+mod branches;
 mod entries;
 mod known;
 mod laws;
+mod members;
 mod replies;
 mod value;
 mod visits;
@@ -16,15 +18,14 @@ mod words;
 
 pub use artifacts::{
     content_value, entry_value, log_value, release_value, resolved_value, revision_value,
-    snapshot_value,
 };
 pub use asked::{Asked, read_path};
+pub use branches::branches_reply;
 pub use entries::entries_reply;
 pub use known::listed_names;
 pub use laws::one_shape;
 pub use replies::{
-    content_reply, core_of, id_of, known_reply, no_path, not_held, origin_reply, raw_reply,
-    refusal, uncarried, url_of, visits_reply,
+    content_reply, core_of, id_of, known_reply, listed_visits, no_path, not_held, origin_reply,
+    raw_reply, refusal, uncarried, url_of, visits_reply,
 };
 pub use value::json_reply;
-pub use visits::visits_value;

@@ -20,13 +20,13 @@ ghost use Rattle.swh_answer.specs.Answers.{
 use crate::artifacts::content_value;
 use crate::known::{known_value, listed_names};
 use crate::value::json_reply;
-use crate::visits::{origin_value, visits_value};
+use crate::visits::{origin_value, visits_text};
 use crate::words::core_string;
 use percent_encoding::percent_decode;
 use serde_json::{Value, json};
 use std::alloc::{AllocError, Global};
 use std::str;
-use swh_base::{Kind, Memory, Name, Reply, Url, UrlFault};
+use swh_base::{Kind, Memory, Name, Reply, Shared, Url, UrlFault};
 use swh_model::{Look, Visit};
 use swh_swhid::parse_core;
 
@@ -106,14 +106,19 @@ pub fn url_of(alloc: Global, text: &[u8]) -> Result<Option<Url>, Memory>
     }
 }
 
-fn listed_visits(alloc: Global, origin: &[u8], visits: &[Visit]) -> Result<Reply, Memory>
+/// The reply on these visits of an origin, of which the oldest stands first: the latest first, and 404 where there are none.
+pub fn listed_visits(alloc: Global, origin: &[u8], visits: &[Visit]) -> Result<Reply, Memory>
     ensures { IfOk result (λ reply. reply ≡ of_visits (visits_data origin.now) visits.now) }
 {
     if visits.is_empty() {
         return refusal(alloc, 404, "not found");
     }
-    let value = visits_value(alloc, origin, visits)?;
-    json_reply(alloc, 200, &value)
+    let text = visits_text(alloc, origin, visits)?;
+    Ok(Reply {
+        status: 200,
+        json: true,
+        body: Shared::from_vec(text)?,
+    })
 }
 
 fn counted_visits(alloc: Global, origin: &[u8], visits: &[Visit]) -> Result<Reply, Memory>

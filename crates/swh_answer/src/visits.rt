@@ -1,12 +1,16 @@
 // Visits and origins as JSON.
-ghost use Rattle.std.specs.Prelude.{◌≡◌, ℕ, List, IfOk};
+ghost use Rattle.std.specs.Prelude.{◌≡◌, ℕ, List, IfOk, OnOk, codes};
 ghost use Rattle.serde_json.specs.View.{view};
+ghost use Rattle.serde_json.specs.Written.{compact_text};
 ghost use Rattle.swh_base.specs.Escape.{escaped as escaped_text};
 ghost use Rattle.swh_base.specs.Visit.{last_mark as last_mark_of};
 ghost use Rattle.swh_answer.specs.Json.{optional_id_data, visit_data, visits_data, origin_data};
+ghost use Rattle.swh_answer.specs.Writes.{WritesValue, WritesMember};
 
-use crate::value::{id_value, text_value};
+use crate::members::{put_number, put_text};
+use crate::value::text_value;
 use crate::words::{kind_of_visit, word_of_status};
+use json::Writer;
 use serde_json::{Value, json};
 use std::alloc::{AllocError, Global};
 use swh_base::{Status, escape};
@@ -21,44 +25,53 @@ fn last_mark(visit: &Visit) -> (Status, Option<[u8; 20]>)
     }
 }
 
-fn optional_id_value(alloc: Global, id: Option<[u8; 20]>) -> Result<Value, AllocError>
-    ensures { IfOk result (λ value. view value ≡ optional_id_data id) }
+fn put_snapshot(alloc: Global, writer: &mut Writer, id: Option<[u8; 20]>) -> Result<(), AllocError>
+    ensures { OnOk result (WritesMember writer.old (codes "snapshot") (optional_id_data id) writer.new) }
 {
+    writer.key("snapshot")?;
     match id {
-        None => Ok(Value::Null),
-        Some(id) => id_value(alloc, &id),
+        None => writer.null(),
+        Some(id) => {
+            let digits = hex::encode(alloc, id)?;
+            writer.string(digits.as_str())
+        }
     }
 }
 
 /// A visit of an origin, whose text is escaped already: its last status, and the snapshot that this has.
-fn visit_value(alloc: Global, escaped: &str, visit: &Visit) -> Result<Value, AllocError>
-    ensures { IfOk result (λ value. (origin : List ℕ) → escaped.now ≡ escaped_text origin
-        → view value ≡ visit_data origin visit.now) }
+fn put_visit(
+    alloc: Global,
+    writer: &mut Writer,
+    escaped: &str,
+    visit: &Visit,
+) -> Result<(), AllocError>
+    ensures { OnOk result ((origin : List ℕ) → escaped.now ≡ escaped_text origin
+        → WritesValue writer.old (visit_data origin visit.now) writer.new) }
 {
     let (status, snapshot) = last_mark(visit);
-    let snapshot = optional_id_value(alloc, snapshot)?;
-    let status = word_of_status(status);
-    let kind = kind_of_visit(visit.kind);
-    json!(in alloc; {
-        "date": visit.date,
-        "origin": escaped,
-        "snapshot": snapshot,
-        "status": status,
-        "type": kind,
-        "visit": visit.number
-    })
+    writer.begin_object()?;
+    put_number(writer, "date", visit.date)?;
+    put_text(writer, "origin", escaped)?;
+    put_snapshot(alloc, writer, snapshot)?;
+    put_text(writer, "status", word_of_status(status))?;
+    put_text(writer, "type", kind_of_visit(visit.kind))?;
+    put_number(writer, "visit", visit.number)?;
+    writer.end_object()
 }
 
-/// The visits of an origin, which are handed in with the oldest first: the latest first. Dates are in seconds since 1970.
-pub fn visits_value(alloc: Global, origin: &[u8], visits: &[Visit]) -> Result<Value, AllocError>
-    ensures { IfOk result (λ value. view value ≡ visits_data origin.now visits.now) }
+/// The text of an origin's visits, which are handed in with the oldest first: the latest first. Dates are in seconds since
+/// 1970. It is written one visit after another: a tree of many visits takes much more memory and time.
+pub fn visits_text(alloc: Global, origin: &[u8], visits: &[Visit]) -> Result<Vec<u8>, AllocError>
+    ensures { IfOk result (λ text. text.items ≡ compact_text (visits_data origin.now visits.now)) }
 {
     let escaped = escape(alloc, origin)?;
-    let mut values = Vec::new(alloc);
+    let mut writer = Writer::new(Vec::new(alloc));
+    writer.begin_array()?;
     for visit in visits.iter().rev() {
-        values.push(visit_value(alloc, escaped.as_str(), visit)?)?;
+        put_visit(alloc, &mut writer, escaped.as_str(), visit)?;
     }
-    Ok(Value::Array(values))
+    writer.end_array()?;
+    Ok(writer.into_inner())
 }
 
 /// An origin, and how many visits it has.

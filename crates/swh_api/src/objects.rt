@@ -14,8 +14,8 @@ ghost use Rattle.swh_api.specs.Fault.{IsFaultReply};
 use percent_encoding::percent_decode;
 use std::alloc::Global;
 use swh_answer::{
-    entries_reply, entry_value, id_of, json_reply, log_value, no_path, not_held, refusal,
-    release_value, resolved_value, revision_value, snapshot_value,
+    branches_reply, entries_reply, entry_value, id_of, json_reply, log_value, no_path, not_held,
+    refusal, release_value, resolved_value, revision_value,
 };
 use swh_base::{Kind, Memory, Reply};
 use swh_graph::{
@@ -137,8 +137,7 @@ pub fn snapshot_reply<L: Look>(alloc: Global, look: &L, text: &[u8]) -> Result<R
         Ok(branches) => branches,
         Err(fault) => return fault_reply(alloc, fault),
     };
-    let value = snapshot_value(alloc, &name.id, branches.as_slice())?;
-    json_reply(alloc, 200, &value)
+    branches_reply(alloc, &name.id, branches.as_slice())
 }
 
 // The value of a text, as a SWHID; none where it is none.

@@ -1,5 +1,6 @@
 //! Tests of the calls over the graph of an archive: which names, entries and refusals they answer over objects that git
-//! named, over a long history and over a deep folder.
+//! named, over a long history, over a deep folder and
+//! over wide objects.
 //! Stands on these calls, and on the objects that tests of reading share.
 //! Nothing stands above it.
 #![tactic(auto)]
@@ -8,3 +9,5 @@
 mod calls;
 #[cfg(test)]
 mod deep;
+#[cfg(test)]
+mod wide;

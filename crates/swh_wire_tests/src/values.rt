@@ -2,8 +2,8 @@
 use std::alloc::Global;
 use std::test::Fail;
 use swh_answer::{
-    content_value, entries_reply, log_value, release_value, resolved_value, revision_value,
-    snapshot_value,
+    branches_reply, content_value, entries_reply, log_value, release_value, resolved_value,
+    revision_value,
 };
 use swh_base::{Kind, Memory, Name, Shared};
 use swh_dirfmt::spelled_dir;
@@ -104,7 +104,9 @@ fn written(alloc: Global, kind: Kind, body: &[u8]) -> Result<Option<Shared<u8>>,
             Err(_) => return Ok(None),
         },
         Kind::Snapshot => match spelled_snp(alloc, body) {
-            Ok(branches) => snapshot_value(alloc, &ONES, branches.as_slice())?,
+            Ok(branches) => return Ok(Some(
+                branches_reply(alloc, &ONES, branches.as_slice())?.body,
+            )),
             Err(_) => return Ok(None),
         },
     };

@@ -1,7 +1,7 @@
 // Visits as JSON.
 use std::alloc::{AllocError, Global};
 use std::test::Fail;
-use swh_answer::visits_value;
+use swh_answer::listed_visits;
 use swh_base::{Items, Memory, Status, VisitKind};
 use swh_model::Visit;
 
@@ -65,8 +65,8 @@ static VISITS: [(VisitKind, Mark, &[u8]); 6] = [
 
 fn shows(alloc: Global, kind: VisitKind, last: Mark, body: &[u8]) -> Result<bool, Memory> {
     let visits = vec![in alloc; visit(alloc, 1, kind, last)?]?;
-    let shown = visits_value(alloc, b"o", visits.as_slice())?.to_string(alloc)?;
-    Ok(shown.as_bytes() == body)
+    let shown = listed_visits(alloc, b"o", visits.as_slice())?;
+    Ok(shown.status == 200 && shown.json && shown.body.as_slice() == body)
 }
 
 #[test]
@@ -85,11 +85,11 @@ fn the_latest_first(rt: HostRuntime) -> Result<(), Fail> {
         visit(rt.alloc(), 2, VisitKind::Dir, (Status::Ongoing, None))?,
     ]?;
     let origin = b"https://e.org/a;b\"\xc3\xa9\\\x7f";
-    let shown = visits_value(rt.alloc(), origin, visits.as_slice())?.to_string(rt.alloc())?;
+    let shown = listed_visits(rt.alloc(), origin, visits.as_slice())?;
     let text: &[u8] = b"[{\"date\":1000000000,\"origin\":\"https://e.org/a%3Bb\\\"%C3%A9\\\\%7F\",\
 \"snapshot\":null,\"status\":\"ongoing\",\"type\":\"dir\",\"visit\":2},{\"date\":1000000000,\
 \"origin\":\"https://e.org/a%3Bb\\\"%C3%A9\\\\%7F\",\"snapshot\":null,\"status\":\"failed\",\
 \"type\":\"fast\",\"visit\":1}]";
-    assert!(rt; shown.as_bytes() == text);
+    assert!(rt; shown.body.as_slice() == text);
     Ok(())
 }

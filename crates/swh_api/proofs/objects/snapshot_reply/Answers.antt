@@ -1,13 +1,10 @@
-use Rattle.std.proofs.Common.{ap, ◌∙◌, subst}
+use Rattle.std.proofs.Common.{refl, subst}
 use Rattle.swh_base.specs.declared.kind.Kind.TheVariants as kind
 use Rattle.swh_base.specs.declared.name.Name.{Name}
-use Rattle.std.proofs.Common.{List}
-use Rattle.swh_snpfmt.specs.declared.branch.SpelledBranch.{SpelledBranch}
 use Rattle.swh_snpfmt.specs.Branches.{branches_in_body}
 use Rattle.swh_graph.specs.Answer.{Refuses}
 use Rattle.swh_graph.specs.Holding.{HoldsSnapshot}
 use Rattle.swh_answer.specs.Json.{snapshot_data}
-use Rattle.swh_answer.proofs.Values.{snapshot-no_float}
 use Rattle.swh_api.specs.Answer.{IsRead}
 use Rattle.swh_api.proofs.Told.{named, read_refuses, fault_by_id, found_by_id}
 use Rattle.swh_api.proofs.objects.snapshot_reply.Goals as goal
@@ -20,12 +17,10 @@ returns-in-Err g c =
     fault_by_id kind.Snapshot (IsRead HoldsSnapshot bodies) snapshot_data c.args.text.now c.in-Some.name.id c.in-Err.fault c.fault_reply.result id.1
     (subst (λ (n : Name). Refuses (IsRead HoldsSnapshot bodies n) c.in-Err.fault) (named kind.Snapshot c.in-Some.name id.0) refuses) c.fault_reply.ensures
 
-pub json_reply-requires : goal.json_reply-requires
-json_reply-requires g c = rw c.in_ok-value.ensures (snapshot-no_float c.in-Some.name.id (branches_in_body c.as_slice.result.now))
-
 pub returns : goal.returns
 returns g c =
     let bodies = (g.L.Look.archive c.args.look.now).bodies in
     let id = c.in-Some.ensures.some in
-    found_by_id kind.Snapshot (IsRead HoldsSnapshot bodies) snapshot_data c.args.text.now c.in-Some.name.id (branches_in_body c.in-Ok.branches.items) _ c.json_reply.result id.1
-    (subst (λ (n : Name). HoldsSnapshot bodies n (branches_in_body c.in-Ok.branches.items)) (named kind.Snapshot c.in-Some.name id.0) c.in-Ok.ensures.ok) (c.in_ok-value.ensures ∙ ap (λ (bs : List SpelledBranch). snapshot_data c.in-Some.name.id (branches_in_body bs)) c.as_slice.ensures.value) c.json_reply.ensures
+    let branches = branches_in_body c.in-Ok.branches.items in
+    found_by_id kind.Snapshot (IsRead HoldsSnapshot bodies) snapshot_data c.args.text.now c.in-Some.name.id branches (snapshot_data c.in-Some.name.id branches) c.branches_reply.result id.1
+    (subst (λ (n : Name). HoldsSnapshot bodies n branches) (named kind.Snapshot c.in-Some.name id.0) c.in-Ok.ensures.ok) refl (rw c.as_slice.ensures.value at c.branches_reply.ensures)
