@@ -1,5 +1,6 @@
 -- A batch of which some objects were given.
 use Rattle.std.proofs.Common.{◌≡◌, ℕ, ◌≤◌, inl, inr, List, [], ◌∷◌, ◌++◌, map, Contains, refl, sym, ap, ◌∙◌, subst, arith}
+use Rattle.std.specs.Prelude.{Result, Err}
 use Rattle.std.proofs.lemmas.List.{append-nil, map-append}
 use Rattle.std.proofs.lemmas.List.Elements.{Contains-append_left}
 use Rattle.swh_base.specs.declared.entry.Entry.{Entry}
@@ -12,6 +13,8 @@ use Rattle.swh_fastlex.specs.Line.{Held, unread, IsAtEnd}
 use Rattle.swh_made.specs.Making.{made, made_from}
 use Rattle.swh_made.proofs.Elements.{all_push}
 use Rattle.swh_batchread.specs.declared.fault.BatchFault.{BatchFault}
+use Rattle.swh_batchread.specs.declared.fault.BatchFault.TheVariants.{ReadFault}
+use Rattle.swh_fastlex.specs.ReadOn.{IsQuietBut}
 use Rattle.swh_batchread.specs.Batch.{Given, IsGiven, KeepsFirst, MeansObjects, given_text, batch_text, input_limit}
 use Rattle.swh_batchread.specs.BatchFault.{BreaksBatch, BreaksHere, ExplainsBatch, MayBreakBatch}
 use Rattle.swh_batchread.specs.Failing.{Fails}
@@ -124,3 +127,7 @@ module _ {S : Type 0} (id : Kind → List ℕ → List ℕ) (sources : Sources S
   breaks_behind given s now others after fault h f =
       fails_as sources.tells MayBreakBatch MayBreakBatch (BreaksHere id s.held.place (unread s.held (sources.left now))) (BreaksBatch id (sources.left source)) (sources.faults source) (sources.faults now) (sources.faults after) fault (λ g may. may)
       (λ told g breaks. let read = h.read told in record { given = read.given; at = s.held.place; rest = unread s.held (sources.left now); reaches = read.reaches; breaks = breaks }) h.quiet f
+
+-- Where another fault is told, no failure was heard.
+pub quiet_but : {T : Type 0} (r : Result T BatchFault) (fault : BatchFault) (old new : ℕ) → r ≡ Err fault → IsQuietBut old new ReadFault r → (fault ≡ ReadFault → ⊥) → new ≡ old
+quiet_but r fault old new is quiet other = quiet (λ e. other (let same : fault ≡ ReadFault = cc in same))

@@ -10,6 +10,7 @@ use Rattle.swh_fastlex.specs.Line.{Held}
 use Rattle.swh_made.specs.Making.{made}
 use Rattle.swh_made.specs.declared.objects.Objects.{Objects}
 use Rattle.swh_batchread.specs.declared.fault.BatchFault.{BatchFault}
+use Rattle.swh_batchread.specs.declared.fault.BatchFault.TheVariants.{ReadFault}
 use Rattle.swh_batchread.specs.declared.giving.BatchPart.{BatchPart}
 use Rattle.swh_batchread.specs.declared.giving.BatchPart.TheVariants.{More, Last}
 use Rattle.swh_batchread.specs.Batch.{Given, KeepsFirst, MeansObjects, input_limit}
@@ -83,16 +84,18 @@ module _ {S : Type 0} (id : Kind → List ℕ → List ℕ) (sources : Sources S
   GivesNext given s now others (More objects) = GoesOn (given ++ objects.items) s now others
   GivesNext given s now others (Last last) = EndsBatch given now others last
 
-  -- The batch breaks, and of its refs nothing was read.
+  -- The batch breaks, and of its refs nothing was read. Only where it is told that the source failed did its count of faults rise.
   pub record BreaksInBatch (now others : S) (fault : BatchFault) : Type 0 where
     pub explains : ExplainsBatch id sources source now fault
     pub same_refs : others ≡ refs
+    pub quiet : (fault ≡ ReadFault → ⊥) → sources.faults now ≡ sources.faults source
 
-  -- The batch is whole, and its refs break.
+  -- The batch is whole, and its refs break. Only where it is told that their source failed did its count of faults rise.
   pub record BreaksInRefs (given : List Entry) (now others : S) (fault : BatchFault) : Type 0 where
     pub all : AreAllOf given
     pub explains : ExplainsRefs sources refs given others fault
     pub quiet : sources.faults now ≡ sources.faults source
+    pub quiet_refs : (fault ≡ ReadFault → ⊥) → sources.faults others ≡ sources.faults refs
 
   -- Why nothing comes after these objects.
   abbrev pub BreaksOff : List Entry → S → S → BatchFault → Type 0

@@ -1,4 +1,3 @@
-pub mod Batchings
 pub mod Founds
 pub mod Gives
 pub mod OneInput

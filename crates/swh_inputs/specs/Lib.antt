@@ -1,4 +1,3 @@
-pub mod Batching
 pub mod Input
 pub mod Opening
 pub mod Parts

@@ -1,4 +1,3 @@
-pub mod Batches
 pub mod Escapes
 pub mod Later
 pub mod Leaves

@@ -7,7 +7,6 @@
 //! says how the visit ended.
 #![tactic(auto)]
 
-mod batching;
 mod detail;
 mod end;
 mod job;

@@ -1,10 +1,12 @@
-use Rattle.std.proofs.Common.{ap, ◌∙◌, ◌++◌, subst}
+use Rattle.std.proofs.Common.{inl, inr, ap, ◌∙◌, ◌++◌, subst}
 use Rattle.swh_outside.specs.Views.{sources}
 use Rattle.swh_fastlex.specs.Line.{IsAtEnd}
 use Rattle.swh_made.specs.Making.{made_from}
+use Rattle.swh_batchread.specs.Giving.{BatchState}
 use Rattle.swh_batchread.specs.Refs.{MeansRefs}
+use Rattle.swh_batchread.specs.RefsFault.{ExplainsRefs}
 use Rattle.swh_batchread.specs.RefSteps.{knowing}
-use Rattle.swh_batchread.proofs.Givings.{all_given, goes_more}
+use Rattle.swh_batchread.proofs.Givings.{all_given, breaks_behind, goes_more, quiet_but}
 use Rattle.swh_batchread.proofs.Reaching.{nothing_left}
 use Rattle.swh_batchread.proofs.giving.next_part.Goals as goal
 
@@ -37,3 +39,26 @@ returns-in-Ok-give-clause-given g c = λ source others given h.
     (c.in-Ok-give.ensures given h.are) (rw c.in-Ok-Some.field-0-is at c.in-Ok-Some.ensures.within)
     (λ told. rw c.in-Ok-Some.field-0-is at (c.in-Ok-Some.ensures.taken told))
     c.next_object.ensures.on.same_path (c.in-Ok-Some.ensures.on.quiet (λ e. cc))
+
+pub returns-in-Err-last_part-clause-err : goal.returns-in-Err-last_part-clause-err
+returns-in-Err-last_part-clause-err g c = λ source others given h.
+    let id = g.N.Namer.id_of in
+    let from = sources g.S.Source.tells g.S.Source.left g.S.Source.faults g.S.Source.path in
+    let state : BatchState = record { held = c.args.window.now; kept = c.args.stock.now.seen; known = knowing c.args.stock.now.known } in
+    inr (record {
+      all = all_given id from source others given state c.args.objects.now c.args.refs.now c.next_object.new.window c.next_object.new.source h (λ told. rw c.in-Ok-None.field-0-is at (c.in-Ok-None.ensures.none told));
+      explains = subst (λ (x : g.row.S.Denot). ExplainsRefs from x given c.last_part.new.refs c.in-Err-last_part.fault) h.same_refs (c.in-Err-last_part.ensures.err given h.are.known_are);
+      quiet = c.in-Ok-None.ensures.on.quiet (λ e. cc) ∙ h.quiet;
+      quiet_refs = λ other. quiet_but c.last_part.result c.in-Err-last_part.fault _ _ c.in-Err-last_part.is c.last_part.ensures.on.quiet other ∙ ap from.faults h.same_refs;
+    })
+
+pub returns-in-Err-clause-err : goal.returns-in-Err-clause-err
+returns-in-Err-clause-err g c = λ source others given h.
+    let id = g.N.Namer.id_of in
+    let from = sources g.S.Source.tells g.S.Source.left g.S.Source.faults g.S.Source.path in
+    let state : BatchState = record { held = c.args.window.now; kept = c.args.stock.now.seen; known = knowing c.args.stock.now.known } in
+    inl (record {
+      explains = breaks_behind id from source others given state c.args.objects.now c.args.refs.now c.next_object.new.source c.in-Err.fault h c.in-Err.ensures.err;
+      same_refs = h.same_refs;
+      quiet = λ other. quiet_but c.next_object.result c.in-Err.fault _ _ c.in-Err.is c.next_object.ensures.on.quiet other ∙ h.quiet;
+    })

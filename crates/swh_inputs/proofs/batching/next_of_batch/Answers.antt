@@ -1,9 +1,0 @@
-use Rattle.std.proofs.Common.{List, ℕ}
-use Rattle.swh_outside.specs.Views.{sources}
-use Rattle.swh_inputs.proofs.Batchings.{told_next}
-use Rattle.swh_inputs.proofs.batching.next_of_batch.Goals as goal
-
-pub returns-in_ok-fault_of_batch-in-Err-clause-given : goal.returns-in_ok-fault_of_batch-in-Err-clause-given
-returns-in_ok-fault_of_batch-in-Err-clause-given g c = λ source others given h.
-    let broke = rw c.in-Err.is at (c.next.ensures.err source others given h) in
-    told_next g.row.N.Denot g.N.Namer.id_of (sources g.S.Source.tells g.S.Source.left g.S.Source.faults g.S.Source.path) source others given c.next.new.self _ _ c.in-Err.fault _ c.in_ok-fault_of_batch-in-Err.ensures.told broke
