@@ -1,5 +1,6 @@
 use Rattle.std.proofs.Common.{ℕ, List, length, refl}
 use Rattle.std.proofs.lemmas.Result.{IfOk-weaker}
+use Rattle.swh_base.specs.declared.kind.Kind.TheVariants.{Directory}
 use Rattle.swh_graph.specs.Path.{directory_name}
 use Rattle.swh_pathwalk.specs.Tree.{Row}
 use Rattle.swh_heldpaths.specs.Held.{IsHeldOrder}
@@ -18,8 +19,8 @@ unreachable-requires g c =
     c.requires.plain
     (of_revision (g.L.Look.archive c.args.look.now).bodies c.args.name (record { kind = c.requires.kind; body = c.body_at-body.result.now; held = c.body_at-body.ensures; odd = rw c.as_slice.ensures at (rw c.in-None.is at c.in_ok-plain.ensures.none) }))
 
-pub files_length-requires : goal.files_length-requires
-files_length-requires g c =
+pub files_length-files-requires : goal.files_length-files-requires
+files_length-files-requires g c =
     let is = rw c.as_slice.ensures at (rw c.in-Some.is at c.in_ok-plain.ensures.some) in
     let there =
     directory_in (g.L.Look.archive c.args.look.now).bodies (g.L.Graph.children_of c.args.look.now) c.is_graph.ensures c.args.marks.now c.requires.preceded c.args.name c.body_at-body.result.now c.requires.there c.body_at-body.ensures
@@ -41,7 +42,7 @@ returns g c =
     let there =
     directory_in bodies (g.L.Graph.children_of c.args.look.now) c.is_graph.ensures order c.requires.preceded c.args.name c.body_at-body.result.now c.requires.there c.body_at-body.ensures plain c.requires.kind is in
     let held : IsHeldOrder (g.L.Graph.children_of c.args.look.now) order = record { some = c.requires.order; preceded = c.requires.preceded } in
-    let walk = some_walk bodies (g.L.Graph.children_of c.args.look.now) c.is_graph.ensures order held (directory_name plain.directory) there refl in
+    let walk = some_walk bodies (g.L.Graph.children_of c.args.look.now) c.is_graph.ensures order held (directory_name plain.directory) there (refl {a = Directory}) in
     IfOk-weaker c.commit_length.result (λ n. (rows : List Row) → IsUpTo (length (files_text order rows)) c.files_length-files.result → IsUpTo (length (commit_text order c.args.name plain rows)) n)
     (HasLengthOf (IsCommit bodies order c.args.name))
     (λ n up.

@@ -1,6 +1,7 @@
 use Rattle.std.proofs.Common.{List, [], refl, sym, subst}
 use Rattle.std.specs.Prelude.{Contains}
 use Rattle.swh_base.specs.declared.name.Name.{Name}
+use Rattle.swh_graph.specs.Path.{directory_name}
 use Rattle.swh_heldpaths.specs.Held.{IsHeldOrder}
 use Rattle.swh_postorder.proofs.Orders.{order_are}
 use Rattle.swh_fastcarried.specs.Rules.{IsOddObject}
@@ -15,7 +16,7 @@ path_sums-requires-clause-order g c =
 pub path_sums-requires-clause-may : goal.path_sums-requires-clause-may
 path_sums-requires-clause-may g c id entries e there holds is =
     files_of (g.L.Look.archive c.args.look.now).bodies (g.L.Graph.children_of c.args.look.now) c.is_graph.ensures c.args.marks.now c.requires.preceded id entries e
-    (subst (λ (ns : List Name). Contains ns _) c.order.ensures there) holds is
+    (subst (λ (ns : List Name). Contains ns (directory_name id)) c.order.ensures there) holds is
 
 pub each_length-requires-clause-sums : goal.each_length-requires-clause-sums
 each_length-requires-clause-sums g c = rw c.order.ensures at c.in_ok-sums.ensures
