@@ -91,7 +91,7 @@ const GRAPH: &[Piece<'static>] = &[
     },
 ];
 
-const MANY: &[Spelled<'static>] = &[
+const LISTED: &[Spelled<'static>] = &[
     Spelled {
         case: Case {
             name: "a folder of 2,000 files",
@@ -233,6 +233,14 @@ le\"}]\n",
             ),
         ],
     },
+];
+
+#[test]
+fn no_number_of_entries_is_want_of_memory(rt: HostRuntime) -> Result<(), Fail> {
+    all_met_spelled(rt.alloc(), LISTED)
+}
+
+const ASKED: &[Spelled<'static>] = &[
     Spelled {
         case: Case {
             name: "an origin of 2,048 bytes, with four visits, and one of 2,049",
@@ -345,6 +353,14 @@ visit\":1}]\n",
             ),
         ],
     },
+];
+
+#[test]
+fn no_number_of_paths_and_visits_is_want_of_memory(rt: HostRuntime) -> Result<(), Fail> {
+    all_met_spelled(rt.alloc(), ASKED)
+}
+
+const HEADS: &[Spelled<'static>] = &[
     Spelled {
         case: Case {
             name: "a head of 1,000 bytes",
@@ -458,49 +474,56 @@ https://e.org/p\t1\tfull\tswh:1:snp:1a8893e6a86f444e8be8e7bda6cb34fb1735a00e\n\
             Piece::Text(b"\n"),
         ],
     },
-    Spelled {
-        case: Case {
-            name: "twelve parents, ten releases, and a path of 101 names",
-            setting: Setting {
-                input: Some(GRAPH),
-                ..LOADING
-            },
-            runs: &[
-                INIT,
-                LOAD,
-                &[
-                    "ask",
-                    "A",
-                    "/api/1/revision/3b2911d0faca9885d81974f80d482953de2df071/log/",
-                    "/api/1/cook/swh:1:rev:08e7f6ed7e0de05942c75121a469b47ca880c5c4/",
-                ],
-            ],
-            statuses: &[0, 0, 0],
-            printed: b"",
-            leaves: None,
+];
+
+#[test]
+fn no_length_of_a_head_or_a_body_is_want_of_memory(rt: HostRuntime) -> Result<(), Fail> {
+    all_met_spelled(rt.alloc(), HEADS)
+}
+
+const DEEP: &[Spelled<'static>] = &[Spelled {
+    case: Case {
+        name: "twelve parents, ten releases, and a path of 101 names",
+        setting: Setting {
+            input: Some(GRAPH),
+            ..LOADING
         },
-        words: &[
-            &[Piece::Text(b"ask")],
-            &[Piece::Text(b"A")],
+        runs: &[
+            INIT,
+            LOAD,
             &[
-                Piece::Text(
-                    b"/api/1/resolve/swh:1:cnt:c1b0730e0133447badcfd47fd144e254807b06e1;origin=https://e.org/p;anchor=swh:1\
-:rel:9a0ad1a99792e7b1b7e8a51325a836d3d82a0f73;path=",
-                ),
-                Piece::Rows {
-                    count: 100,
-                    before: b"/",
-                    fill: 0,
-                    after: b"",
-                },
-                Piece::Text(b"/f;lines=1;bytes=0/"),
+                "ask",
+                "A",
+                "/api/1/revision/3b2911d0faca9885d81974f80d482953de2df071/log/",
+                "/api/1/cook/swh:1:rev:08e7f6ed7e0de05942c75121a469b47ca880c5c4/",
             ],
         ],
-        times: 1,
-        status: 0,
-        printed: &[
+        statuses: &[0, 0, 0],
+        printed: b"",
+        leaves: None,
+    },
+    words: &[
+        &[Piece::Text(b"ask")],
+        &[Piece::Text(b"A")],
+        &[
             Piece::Text(
-                b"made\n\
+                b"/api/1/resolve/swh:1:cnt:c1b0730e0133447badcfd47fd144e254807b06e1;origin=https://e.org/p;anchor=swh:1\
+:rel:9a0ad1a99792e7b1b7e8a51325a836d3d82a0f73;path=",
+            ),
+            Piece::Rows {
+                count: 100,
+                before: b"/",
+                fill: 0,
+                after: b"",
+            },
+            Piece::Text(b"/f;lines=1;bytes=0/"),
+        ],
+    ],
+    times: 1,
+    status: 0,
+    printed: &[
+        Piece::Text(
+            b"made\n\
 https://e.org/p\t1\tfull\tswh:1:snp:ef6e261684efd3d0f77498fd00982cf03f692dad\n\
 200 560\n\
 [\"3b2911d0faca9885d81974f80d482953de2df071\",\"89a6ad537867a7004374588df7c2f20d9dd51cac\",\"00a7fac7\
@@ -526,10 +549,10 @@ first\n\
 \n\
 deleteall\n\
 M 100644 :1 ",
-            ),
-            NAMES,
-            Piece::Text(
-                b"f\n\
+        ),
+        NAMES,
+        Piece::Text(
+            b"f\n\
 \n\
 reset refs/heads/main\n\
 from :2\n\
@@ -541,12 +564,11 @@ done\n\
 \n\
 200 80\n\
 {\"object_id\":\"c1b0730e0133447badcfd47fd144e254807b06e1\",\"object_type\":\"content\"}\n",
-            ),
-        ],
-    },
-];
+        ),
+    ],
+}];
 
 #[test]
-fn no_number_is_want_of_memory(rt: HostRuntime) -> Result<(), Fail> {
-    all_met_spelled(rt.alloc(), MANY)
+fn no_depth_is_want_of_memory(rt: HostRuntime) -> Result<(), Fail> {
+    all_met_spelled(rt.alloc(), DEEP)
 }
