@@ -69,7 +69,7 @@ fn is_logged(alloc: Global, case: &Merge) -> Result<bool, Fail> {
     let body = merge_body(alloc, &folder, parents.as_slice(), absent)?;
     let merge = added(alloc, &mut shown, Kind::Revision, body)?;
     let first_absent = Name::from_hex(Kind::Revision, hex_of_number(alloc, 0)?.as_slice());
-    let lacks = absent > 0 && held + 1 < limit;
+    let lacks = absent > 0 && held < limit.saturating_sub(1);
     Ok(match log(alloc, &shown, merge.id, limit) {
         Ok(names) => {
             !lacks && are_first(names.as_slice(), merge, parents.as_slice(), limit as usize)
