@@ -137,6 +137,26 @@ module _ (id : Kind → List ℕ → List ℕ) where
         enters = refl;
       })
 
+  -- the entry of a folder, whose directory was made
+  pub makes_folder : (name : List ℕ) (place : Place) (old : List Entry) (list : List DirectoryEntry) (new : List Entry) (below : List DirectoryEntry) (root : List ℕ) (entry : DirectoryEntry) → place ≡ stands.Folder → IsEntryName name → GivesDirectory id old list new below root → entry.mode ≡ 40000 → entry.name ≡ name → entry.id ≡ root → MakesEntry id name place old list new entry
+  makes_folder name place old list new below root entry is named gives m n i =
+      subst (λ (p : Place). MakesEntry id name p old list new entry) (sym is) (record {
+        below = below;
+        is = same_entry entry (entry_of id name below stands.Folder) m n (i ∙ gives.named);
+        good = record { mode = inr (inr (inr (inl m))); name = subst IsEntryName (sym n) named; id = ap length i ∙ gives.twenty };
+        enters = subst (λ (r : List ℕ). GivesDirectory id old list new below r) gives.named gives;
+      })
+
+  -- the entry of a project
+  pub makes_project : (name revision : List ℕ) (place : Place) (old : List Entry) (list : List DirectoryEntry) (entry : DirectoryEntry) → place ≡ stands.Project revision → IsEntryName name → entry.mode ≡ 160000 → entry.name ≡ name → entry.id ≡ revision → length entry.id ≡ 20 → MakesEntry id name place old list old entry
+  makes_project name revision place old list entry is named m n i twenty =
+      subst (λ (p : Place). MakesEntry id name p old list old entry) (sym is) (record {
+        below = [];
+        is = same_entry entry (entry_of id name [] (stands.Project revision)) m n i;
+        good = record { mode = inr (inr (inr (inr m))); name = subst IsEntryName (sym n) named; id = twenty };
+        enters = refl;
+      })
+
   module _ (spots : List Spot) (standing : List Place) (table : IsTable spots) where
     apart : (i m : ℕ) → m < i → i < length spots → path_to spots i ≡ path_to spots m → ⊥
     apart i m low high e = let same = unique (length spots) (path_to spots) (above_at spots) (name_at spots) (tree_of spots table) i m high (omega (arith, low, high)) e in omega (arith, same, low)

@@ -7,7 +7,9 @@ use Rattle.std.proofs.lemmas.Slice.Eq.{bytes_eq-Decides}
 use Rattle.swh_base.specs.declared.kind.Kind.{Kind}
 use Rattle.swh_base.specs.declared.entry.Entry.{Entry}
 use Rattle.swh_base.specs.Directory.{DirectoryEntry, IsEntryName, AreEntries, directory_text}
-use Rattle.swh_model.specs.Meaning.{directory}
+use Rattle.swh_base.specs.declared.kind.Kind.TheVariants.{Directory}
+use Rattle.swh_object.specs.Object.{IsObject}
+use Rattle.swh_model.specs.Meaning.{Made, directory}
 use Rattle.swh_made.specs.Making.{made, name_of, names_of_made}
 use Rattle.swh_made.proofs.Elements.{contains_map, from_map}
 use Rattle.swh_dirmade.specs.declared.place.Place.{Place}
@@ -150,3 +152,12 @@ pub root_named : (id : Kind → List ℕ → List ℕ) (old new : List Entry) (l
 root_named id old new list entries root gives =
     let there : Contains (made new) (directory (directory_text entries)) = subst (Contains (made new)) gives.is (given_there old new gives.object gives.gives) in
     subst (λ (r : List ℕ). Contains (names_of_made id (made new)) (directory_name r)) (sym gives.named) (contains_map (name_of id) (made new) (directory (directory_text entries)) there)
+
+-- the object of the directory of this id
+pub root_object : (id : Kind → List ℕ → List ℕ) (old new : List Entry) (list entries : List DirectoryEntry) (root : List ℕ) → GivesDirectory id old list new entries root → (object : Entry) × IsObject id object × (object.name ≡ directory_name root)
+root_object id old new list entries root gives =
+    let name = gives.object.name in
+    let kind : name.kind ≡ Directory = ap (λ (m : Made). m.kind) gives.is in
+    let own : name.id ≡ root = gives.whole.named ∙ ap (λ (m : Made). id m.kind m.body) gives.is ∙ sym gives.named in
+    let first : name ≡ record { kind = Directory; id = name.id } = ap (λ (k : Kind). record { kind = k; id = name.id }) kind in
+    (gives.object, gives.whole, first ∙ ap directory_name own)

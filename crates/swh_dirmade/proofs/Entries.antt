@@ -25,7 +25,11 @@ use Rattle.swh_base.specs.Manifest.{AreChildren}
 use Rattle.swh_base.proofs.DirectoryLemmas.{one_listing_lem}
 use Rattle.swh_made.proofs.Elements.{all_from, each_is}
 use Rattle.swh_base.specs.Limits.{body_limit}
-use Rattle.swh_dirmade.specs.Making.{IsReadyEntry, MayBeDirectory}
+use Rattle.swh_base.specs.declared.kind.Kind.{Kind}
+use Rattle.swh_base.specs.declared.entry.Entry.{Entry}
+use Rattle.swh_model.specs.Meaning.{Made}
+use Rattle.swh_dirmade.specs.Directories.{directory_id}
+use Rattle.swh_dirmade.specs.Making.{IsReadyEntry, MayBeDirectory, IsDirectoryObject}
 use Rattle.swh_dirmade.proofs.Paths.{Plain, not_plain, last_cut}
 
 plain_nil : Plain []
@@ -156,3 +160,15 @@ module _ (names : List Name) (list ordered : List DirectoryEntry) (may : MayBeDi
       let c = sum_by-IsPermutation (λ (e : DirectoryEntry). length (entry_text e)) may.entries ordered all_moved in
       let few = may.short in
       omega (arith, a, b, c, few)
+
+module _ (id : Kind → List ℕ → List ℕ) where
+  -- the id of a directory's object
+  pub object_named : (list entries : List DirectoryEntry) (object : Entry) → IsDirectoryObject id list entries object → object.name.id ≡ directory_id id entries
+  object_named list entries object d = d.whole.named ∙ ap (λ (m : Made). id m.kind m.body) d.is
+
+  -- the children of a directory's object are among these
+  pub object_kids : (names : List Name) (list entries : List DirectoryEntry) (object : Entry) → MayBeDirectory names list → IsDirectoryObject id list entries object → AllByRecursion (Contains names) object.kids
+  object_kids names list entries object may d =
+      let kind : object.name.kind ≡ Directory = ap (λ (m : Made). m.kind) d.is in
+      let is : IsDirectory object.body entries = record { text = ap (λ (m : Made). m.body) d.is; good = d.good } in
+      kids_are names object.kids object.body entries is (order_ready names list entries may d.order) (subst (λ (k : Kind). AreChildren k object.body object.kids) kind d.whole.kids)

@@ -4,6 +4,7 @@ pub mod Entries
 pub mod Givens
 pub mod Heads
 pub mod Lengths
+pub mod Lists
 pub mod Numbers
 pub mod Paths
 pub mod Sorting

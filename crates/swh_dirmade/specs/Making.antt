@@ -8,6 +8,7 @@ use Rattle.swh_base.specs.declared.name.Name.{Name}
 use Rattle.swh_base.specs.declared.entry.Entry.{Entry}
 use Rattle.swh_base.specs.Limits.{body_limit}
 use Rattle.swh_base.specs.Directory.{DirectoryEntry, IsEntry, AreEntries, directory_text, child_of}
+use Rattle.swh_object.specs.Object.{IsObject}
 use Rattle.swh_model.specs.Meaning.{directory}
 use Rattle.swh_made.specs.Making.{made_from}
 use Rattle.swh_made.specs.Whole.{content_name}
@@ -40,6 +41,13 @@ pub record MayBeDirectory (names : List Name) (list : List DirectoryEntry) : Typ
   pub short : length (directory_text entries) ≤ body_limit
 
 module _ (id : Kind → List ℕ → List ℕ) where
+  -- The list, in order, is the directory of this object.
+  pub record IsDirectoryObject (list entries : List DirectoryEntry) (object : Entry) : Type 0 where
+    pub order : IsPermutation list entries
+    pub good : AreEntries entries
+    pub is : made_from object ≡ directory (directory_text entries)
+    pub whole : IsObject id object
+
   -- The list, in order, is a directory of this id, which is given.
   pub record GivesDirectory (old : List Entry) (list : List DirectoryEntry) (new : List Entry) (entries : List DirectoryEntry) (root : List ℕ) : Type 0 where
     pub order : IsPermutation list entries
@@ -48,6 +56,7 @@ module _ (id : Kind → List ℕ → List ℕ) where
     pub twenty : length root ≡ 20
     pub object : Entry
     pub is : made_from object ≡ directory (directory_text entries)
+    pub whole : IsObject id object
     pub gives : GivesOne old object new
 
   -- The entry is that of what stands under a name; a folder's directory of this list is given.

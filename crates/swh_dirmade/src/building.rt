@@ -20,7 +20,7 @@ use swh_base::{Memory, Namer};
 use swh_dirfmt::DirEntry;
 
 /// As many empty lists.
-fn no_lists(alloc: Global, count: usize) -> Result<Vec<Vec<DirEntry>>, Memory>
+pub fn no_lists(alloc: Global, count: usize) -> Result<Vec<Vec<DirEntry>>, Memory>
     ensures count { IfOk result (λ lists. length lists.items ≡ count) }
     ensures none { IfOk result (λ lists. (k : ℕ) → list_at (list_views lists.items) k ≡ []) }
 {
@@ -32,7 +32,11 @@ fn no_lists(alloc: Global, count: usize) -> Result<Vec<Vec<DirEntry>>, Memory>
 }
 
 /// Adds an entry to the list of a folder.
-fn put_entry(lists: &mut Vec<Vec<DirEntry>>, folder: usize, entry: DirEntry) -> Result<(), Memory>
+pub fn put_entry(
+    lists: &mut Vec<Vec<DirEntry>>,
+    folder: usize,
+    entry: DirEntry,
+) -> Result<(), Memory>
     requires { folder < length lists.old.items }
     ensures put { OnOk result (list_views lists.new.items ≡ slice_set (list_views lists.old.items) folder
         (list_at (list_views lists.old.items) folder ++ entry_view entry ∷ [])) }

@@ -2,11 +2,12 @@
 ghost use Rattle.std.specs.Prelude.{◌≡◌, List, IfOk};
 ghost use Rattle.std.specs.Ordering.{nat_cmp};
 ghost use Rattle.std.specs.Cmp.Lexicographic.{slice_cmp};
+ghost use Rattle.swh_base.specs.declared.name.Name.{Name};
 ghost use Rattle.swh_base.specs.Directory.{DirectoryEntry, sort_key, suffix_of, IsEntryName};
 ghost use Rattle.swh_dirfmt.specs.Entries.{entry_view, entry_views};
 ghost use Rattle.swh_made.specs.Making.{made, names_of_made};
 ghost use Rattle.swh_dirmade.specs.declared.place.Place.TheVariants.{Folder as AFolder};
-ghost use Rattle.swh_dirmade.specs.Making.{IsHeld, MayBeDirectory, GivesDirectory, MakesEntry};
+ghost use Rattle.swh_dirmade.specs.Making.{IsHeld, MayBeDirectory, IsDirectoryObject, GivesDirectory, MakesEntry};
 
 use crate::given::Given;
 use crate::place::Place;
@@ -16,6 +17,7 @@ use std::cmp::Ordering;
 use swh_base::{Bytes, Kind, Memory, Namer};
 use swh_dirfmt::{DirEntry, Entries, write_dir};
 use swh_made::{MakeFault, make_object, whole_id};
+use swh_object::Object;
 
 /// What a name is compared with after its own bytes.
 fn key_end(mode: u32) -> &'static [u8]
@@ -32,6 +34,26 @@ fn order_of(a: &DirEntry, b: &DirEntry) -> Ordering
     key.cmp(b.name.as_slice().iter().chain(key_end(b.mode)))
 }
 
+/// The directory of these entries.
+pub fn directory_object<N: Namer>(
+    alloc: Global,
+    namer: &N,
+    list: Vec<DirEntry>,
+) -> Result<Object<N>, Memory>
+    requires { (names : List Name) × MayBeDirectory names (entry_views list.items) }
+    ensures { IfOk result (λ object. (entries : List DirectoryEntry)
+        × IsDirectoryObject N.id_of (entry_views list.items) entries object) }
+{
+    let mut list = list;
+    list.sort_unstable_by(|a, b| order_of(a, b));
+    let body = write_dir(alloc, &Entries::of(list))?;
+    match make_object(alloc, namer, Kind::Directory, body) {
+        Ok(object) => Ok(object),
+        Err(MakeFault::TooLong { len: _ }) => unreachable!(),
+        Err(MakeFault::Memory) => Err(Memory),
+    }
+}
+
 /// Makes the directory of these entries, whose children were given, and tells its id.
 pub fn make_directory<N: Namer>(
     alloc: Global,
@@ -43,18 +65,10 @@ pub fn make_directory<N: Namer>(
     ensures { IfOk result (λ id. (entries : List DirectoryEntry)
         × GivesDirectory N.id_of given.old (entry_views list.items) given.new entries id) }
 {
-    let mut list = list;
-    list.sort_unstable_by(|a, b| order_of(a, b));
-    let body = write_dir(alloc, &Entries::of(list))?;
-    match make_object(alloc, namer, Kind::Directory, body) {
-        Ok(object) => {
-            let id = whole_id(&object.name().id);
-            given.give(alloc, object)?;
-            Ok(id)
-        }
-        Err(MakeFault::TooLong { len: _ }) => unreachable!(),
-        Err(MakeFault::Memory) => Err(Memory),
-    }
+    let object = directory_object(alloc, namer, list)?;
+    let id = whole_id(&object.name().id);
+    given.give(alloc, object)?;
+    Ok(id)
 }
 
 /// The entry of a spot where this stands. A folder has the entries of the list, of which its directory is made.

@@ -1,24 +1,13 @@
-use Rattle.std.proofs.Common.{◌≡◌, ◌≤◌, ℕ, suc, List, [], ◌∷◌, ◌++◌, length, refl, inl, sym, ap, ◌∙◌, subst, arith, rules, length-append}
-use Rattle.std.specs.Global.{Vec}
-use Rattle.std.proofs.lemmas.List.{length-map, map-append}
+use Rattle.std.proofs.Common.{◌≡◌, ◌≤◌, ℕ, List, length, refl, inl, sym, ap, ◌∙◌, subst, arith, rules}
 use Rattle.swh_base.specs.Directory.{DirectoryEntry}
 use Rattle.swh_made.specs.Making.{made, names_of_made}
-use Rattle.swh_dirfmt.specs.declared.entry.DirEntry.{DirEntry}
 use Rattle.swh_dirfmt.specs.Entries.{entry_views}
 use Rattle.swh_dirmade.specs.Building.{list_views, list_at, Builds}
 use Rattle.swh_dirmade.specs.Making.{GivesDirectory}
 use Rattle.swh_dirmade.proofs.Built.{none_built, may_be_next, last_list}
 use Rattle.swh_dirmade.proofs.Directories.{root_gives, root_named}
+use Rattle.swh_dirmade.proofs.Lists.{list_length, long_of, views_of}
 use Rattle.swh_dirmade.proofs.building.make_directories.Goals as goal
-
-list_length : (lists : List (Vec DirEntry)) → length (list_views lists) ≡ length lists
-list_length lists = length-map lists (λ (l : Vec DirEntry). entry_views l.items)
-
-long_of : (old front : List (Vec DirEntry)) (list : Vec DirEntry) → old ≡ front ++ list ∷ [] → length old ≡ suc (length front)
-long_of old front list cut = let e = ap length cut in let l = length-append front (list ∷ []) in omega (arith, e, l)
-
-views_of : (old front : List (Vec DirEntry)) (list : Vec DirEntry) → old ≡ front ++ list ∷ [] → list_views old ≡ list_views front ++ entry_views list.items ∷ []
-views_of old front list cut = ap list_views cut ∙ map-append (λ (l : Vec DirEntry). entry_views l.items) front (list ∷ [])
 
 pub up-init : goal.up-init
 up-init g c =

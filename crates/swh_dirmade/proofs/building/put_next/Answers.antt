@@ -1,25 +1,14 @@
-use Rattle.std.proofs.Common.{◌≡◌, ◌<◌, ℕ, suc, List, [], ◌∷◌, ◌++◌, length, get_or, inr, sym, ap, ◌∙◌, subst, arith, length-append}
-use Rattle.std.specs.Global.{Vec}
-use Rattle.std.proofs.lemmas.List.{length-map, map-append}
+use Rattle.std.proofs.Common.{◌≡◌, ◌<◌, ℕ, [], length, get_or, inr, sym, ◌∙◌, subst, arith}
 use Rattle.swh_made.specs.Making.{made, names_of_made}
-use Rattle.swh_dirfmt.specs.declared.entry.DirEntry.{DirEntry}
 use Rattle.swh_dirfmt.specs.Entries.{entry_view, entry_views}
 use Rattle.swh_dirmade.specs.declared.place.Place.TheVariants as stands
 use Rattle.swh_dirmade.specs.Building.{list_views, Builds}
 use Rattle.swh_dirmade.specs.Spots.{place_at}
 use Rattle.swh_dirmade.proofs.Built.{held_now, may_be_next, put_built}
 use Rattle.swh_dirmade.proofs.Lengths.{get_any}
+use Rattle.swh_dirmade.proofs.Lists.{list_length, long_of, views_of}
 use Rattle.swh_dirmade.proofs.Numbers.{spot_at}
 use Rattle.swh_dirmade.proofs.building.put_next.Goals as goal
-
-list_length : (lists : List (Vec DirEntry)) → length (list_views lists) ≡ length lists
-list_length lists = length-map lists (λ (l : Vec DirEntry). entry_views l.items)
-
-long_of : (old front : List (Vec DirEntry)) (list : Vec DirEntry) → old ≡ front ++ list ∷ [] → length old ≡ suc (length front)
-long_of old front list cut = let e = ap length cut in let l = length-append front (list ∷ []) in omega (arith, e, l)
-
-views_of : (old front : List (Vec DirEntry)) (list : Vec DirEntry) → old ≡ front ++ list ∷ [] → list_views old ≡ list_views front ++ entry_views list.items ∷ []
-views_of old front list cut = ap list_views cut ∙ map-append (λ (l : Vec DirEntry). entry_views l.items) front (list ∷ [])
 
 pub make_entry-requires-clause-named : goal.make_entry-requires-clause-named
 make_entry-requires-clause-named g c κs within =
