@@ -7,6 +7,7 @@ use Rattle.swh_model.specs.Meaning.{Made, StreamMeaning}
 use Rattle.swh_made.specs.declared.objects.Objects.{Objects}
 use Rattle.swh_made.specs.Making.{made}
 use Rattle.swh_fastgrammar.specs.declared.command.Command.{Command}
+use Rattle.swh_fastlex.specs.ReadOn.{IsQuietBut}
 use Rattle.swh_fastrows.specs.Places.{HoldsFront, position}
 use Rattle.swh_fastread.proofs.Afterwards.{stream_after_start}
 use Rattle.swh_fastmeaning.specs.Aims.{Missing}
@@ -96,10 +97,6 @@ module _ {N E : Type 0} (id : Kind → List ℕ → List ℕ) (tells : Type 0) (
   stops_all (Ok all) e now held told = reads_up_to text text s.standing.place now refl (e.stops told) held
   stops_all (Err fault) e now held told = tt
 
-  pub quiet_all : (r : Result (Objects N) E) → IfOk r (EndsStream id tells head text faults path [] s) → (count : ℕ) → count ≡ s.standing.place.faults → IfOk r (λ _. count ≡ faults)
-  quiet_all (Ok all) e count same = same ∙ e.quiet
-  quiet_all (Err fault) e count same = tt
-
 -- all that an input may give belongs to what it means
 pub given_meant : (id : Kind → List ℕ → List ℕ) (head : Option (List ℕ)) (text : List ℕ) (objects : List Made) (meaning : StreamMeaning) → MayGive id head text objects → Means id head text meaning → (m : Made) → Contains objects m → Contains meaning.objects m
 unfolding MayGive Means
@@ -123,3 +120,7 @@ pub last_still : {N E : Type 0} (P : Type 0) (r : Result (StreamPart N) E) → I
 last_still P (Ok (More objects)) is = absurd is
 last_still P (Ok (Last last)) is = tt
 last_still P (Err e) is = tt
+
+-- A failure that is handed on was heard where it is the source's.
+pub quiet_fault : {T U : Type 0} (r : Result T InputFault) (fault : InputFault) (old new : ℕ) → r ≡ Err fault → IsQuietBut old new ReadFault r → IsQuietBut {T = U} old new ReadFault (Err fault)
+quiet_fault r fault old new is quiet = λ other. quiet (λ e. other (let same : fault ≡ ReadFault = cc in ap Err same))

@@ -20,6 +20,7 @@ use Rattle.swh_fastread.specs.declared.reader.Ending.{Ending}
 use Rattle.swh_fastread.specs.declared.reader.Ending.TheVariants.{Open, Refused}
 use Rattle.swh_fastrows.specs.Explains.{Explains}
 use Rattle.swh_fastrows.specs.Outcome.{IsFaultWithin, PassesFirst, StartsWith}
+use Rattle.swh_fastlex.specs.ReadOn.{IsQuietBut}
 use Rattle.swh_fastlex.specs.declared.source.TheConstants.{WINDOW}
 use Rattle.swh_fastrows.specs.Failing.{MayPass, MayFail}
 use Rattle.swh_fastrows.specs.Places.{Place, Position, HoldsFront, left, position}
@@ -32,6 +33,8 @@ use Rattle.swh_fastmeaning.specs.Aims.{Missing}
 use Rattle.swh_fastmeaning.specs.Commands.{Making, no_making, Makes, step}
 use Rattle.swh_fastmeaning.specs.Feeding.{Loading, IsTooLong, ExplainsFeed}
 use Rattle.swh_made.specs.Giving.{AreNew}
+use Rattle.swh_fastload.specs.declared.bad.InputFault.{InputFault}
+use Rattle.swh_fastload.specs.declared.bad.InputFault.TheVariants.{ReadFault}
 use Rattle.swh_fastload.specs.Input.{beginning, BreaksAt, PassesAt, StopsAt, Breaks, MayBreak}
 use Rattle.swh_fastload.specs.Loads.{no_loading, FeedsTo}
 use Rattle.swh_made.specs.Making.{made_from, made}
@@ -46,6 +49,10 @@ use Rattle.swh_fastload.proofs.Progresses.{loaded_more, carried}
 pub rose_since : (ending : Ending) (a b c : ℕ) → ending ≡ Open → a ≤ b → (ending ≡ Refused SourceFailed) ⊎ Rose b c → Rose a c
 rose_since ending a b c o l (inl e) = let n : Open ≡ Refused SourceFailed = sym o ∙ e in absurd cc
 rose_since ending a b c o l (inr r) = omega (arith, l, r)
+
+-- Where a reader's failure is told as another one than the source's, none was heard.
+pub quiet_read : {T U : Type 0} (r : Result T ReadFail) (fail : ReadFail) (told : InputFault) (old new : ℕ) → r ≡ Err fail → told ≡ read_fault fail → IsQuietBut old new SourceFailed r → IsQuietBut {T = U} old new ReadFault (Err told)
+quiet_read r fail told old new is gives heard = λ other. heard (λ e. other (let same : fail ≡ SourceFailed = cc in ap Err (gives ∙ ap read_fault same)))
 
 -- a body above the limit
 pub body_may : (which : Which) (number : ℕ) → which ≡ Body → body_limit < number → MayPass which number

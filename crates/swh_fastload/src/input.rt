@@ -3,6 +3,8 @@ ghost use Rattle.std.specs.Prelude.{◌≡◌, ◌≤◌, ◌++◌, ℕ, List, [
 ghost use Rattle.std.specs.Option.{option_copied};
 ghost use Rattle.swh_base.specs.Text.{IsRef};
 ghost use Rattle.swh_outside.specs.Views.{sources};
+ghost use Rattle.swh_fastlex.specs.ReadOn.{IsQuietBut};
+ghost use Rattle.swh_fastload.specs.declared.bad.InputFault.TheVariants.{ReadFault as SourceFailed};
 ghost use Rattle.swh_fastload.specs.Giving.{AreWholeAndNew, BreaksOff, EndsStream, GoesOn};
 ghost use Rattle.swh_fastload.specs.Loaded.{making_of};
 ghost use Rattle.swh_fastload.specs.Reading.{ReadsUpTo};
@@ -51,6 +53,7 @@ fn load_all<N: Namer, S: Source>(
         parts.new.standing.place.faults) }
     ensures same_path { parts.new.standing.place.path ≡ parts.old.standing.place.path }
     ensures later { parts.old.standing.place.faults ≤ parts.new.standing.place.faults }
+    ensures quiet { IsQuietBut parts.old.standing.place.faults parts.new.standing.place.faults SourceFailed result }
 {
     let mut objects = Vec::new(alloc);
     'stream: loop {
@@ -76,7 +79,7 @@ fn load_lent<'a, N: Namer, S: Source>(
         (making_of made)) }
     ensures all { IfOk loaded.new (λ made. AreWholeAndNew N.id_of made.objects.items made.snapshot) }
     ensures stops { S.tells → IfOk loaded.new (λ _. ReadsUpTo (S.left source.old) (S.left result.source.now)) }
-    ensures quiet { IfOk loaded.new (λ _. S.faults result.source.now ≡ S.faults source.old) }
+    ensures quiet { IsQuietBut (S.faults source.old) (S.faults result.source.now) SourceFailed loaded.new }
     ensures breaks { IfErr loaded.new (BreaksOff N.id_of S.tells (option_copied head.entry) (S.left source.old)
         (S.faults source.old) (S.faults result.source.now)) }
 
@@ -111,9 +114,9 @@ pub fn load_source<N: Namer, S: Source>(
     ensures whole { IfOk result (HasAllThatIsReached N.id_of) }
     // Each comes once, and after all that it names.
     ensures order { IfOk result (λ loaded. AreNew N.id_of [] loaded.objects.items) }
-    // What stands behind the stream is left, but for a window. Where it ends well no read failed.
+    // What stands behind the stream is left, but for a window. No read failed, unless that is the answer.
     ensures read { S.tells → IfOk result (λ _. ReadsUpTo (S.left source.old) (S.left source.new)) }
-    ensures quiet { IfOk result (λ _. S.faults source.new ≡ S.faults source.old) }
+    ensures quiet { IsQuietBut (S.faults source.old) (S.faults source.new) SourceFailed result }
     // An input that is refused breaks so, or the source failed.
     ensures err { IfErr result (ExplainsSource N.id_of (option_copied head.entry)
         (sources S.tells S.left S.faults S.path) source.old source.new) }

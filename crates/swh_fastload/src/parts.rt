@@ -3,8 +3,10 @@ ghost use Rattle.std.specs.Prelude.{◌≡◌, ◌<◌, ◌≤◌, ◌^◌, ◌+
 ghost use Rattle.std.specs.Option.{option_copied};
 ghost use Rattle.swh_base.specs.Text.{IsRef};
 ghost use Rattle.swh_base.specs.declared.entry.Entry.{Entry};
+ghost use Rattle.swh_fastlex.specs.ReadOn.{IsQuietBut};
 ghost use Rattle.swh_fastrows.specs.Places.{HoldsFront};
 ghost use Rattle.swh_fastread.specs.declared.reader.Ending.TheVariants.{Open};
+ghost use Rattle.swh_fastload.specs.declared.bad.InputFault.TheVariants.{ReadFault as SourceFailed};
 ghost use Rattle.swh_fastload.specs.Giving.{AreWholeAndNew, BreaksOff, GivesNext, GoesOn, IfLast, IfMore, IsLast, meaning_of};
 ghost use Rattle.swh_fastload.specs.Input.{Means};
 ghost use Rattle.swh_fastload.specs.Reading.{read_fault, feed_fault, BreaksSo, HasGiven, HasRead, IsQuiet};
@@ -142,6 +144,7 @@ fn next_part<N: Namer, S: Source>(
     ensures onward { IfOk result (λ part. IfMore part (reader.old.place.at < reader.new.place.at)) }
     ensures same_path { reader.new.place.path ≡ reader.old.place.path }
     ensures later { reader.old.place.faults ≤ reader.new.place.faults }
+    ensures quiet { IsQuietBut reader.old.place.faults reader.new.place.faults SourceFailed result }
 {
     let command = match reader.next_command() {
         Ok(Some(command)) => command,
@@ -188,6 +191,7 @@ impl<N: Namer, S: Source> StreamParts<N, S> {
         ensures within { self.old.standing.place.at ≤ 2 ^ 33 }
         ensures same_path { self.new.standing.place.path ≡ self.old.standing.place.path }
         ensures later { self.old.standing.place.faults ≤ self.new.standing.place.faults }
+        ensures quiet { IsQuietBut self.old.standing.place.faults self.new.standing.place.faults SourceFailed result }
     {
         let _place = self.reader.place();
         next_part(alloc, &mut self.reader, &mut self.load, head)

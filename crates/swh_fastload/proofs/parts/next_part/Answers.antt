@@ -5,13 +5,16 @@ use Rattle.swh_fastread.specs.Steps.{EndsHere}
 use Rattle.swh_fastmeaning.specs.Commands.{step}
 use Rattle.swh_fastload.specs.Reading.{FailsSo}
 use Rattle.swh_fastload.proofs.Givings.{fails_off, ends_off, ends_part, last_still}
-use Rattle.swh_fastload.proofs.Readings.{given_more, come_more, read_fails, feed_fails, rose_since, has_read, stops_at_end, ended, led, still_open}
+use Rattle.swh_fastload.proofs.Readings.{given_more, come_more, quiet_read, read_fails, feed_fails, rose_since, has_read, stops_at_end, ended, led, still_open}
 use Rattle.swh_fastload.proofs.parts.next_part.Goals as goal
 
 pub returns-in-Err-clause-err : goal.returns-in-Err-clause-err
 returns-in-Err-clause-err g c = λ text faults path given h.
     let failed = read_fails g.N.Namer.id_of g.S.Source.tells c.args.reader.now.place c.args.reader.now.promised text c.args.load.now given faults c.next_command.new.self.place.faults c.in-Err.fail h.come (λ told. rw c.in-Err.is at (c.next_command.ensures.fails told h.still)) (λ e. rose_since c.args.reader.now.ending faults c.args.reader.now.place.faults c.next_command.new.self.place.faults h.still (omega (arith, h.quiet)) (c.next_command.ensures.cause (c.in-Err.is ∙ ap Err e))) (rw c.in-Err.is at (c.next_command.ensures.may h.still)) in
     fails_off g.N.Namer.id_of g.S.Source.tells (option_copied c.args.head) text faults c.next_command.new.self.place.faults c.read_fault.result (subst (FailsSo g.N.Namer.id_of g.S.Source.tells text faults c.next_command.new.self.place.faults) (sym c.read_fault.ensures) failed)
+
+pub returns-in-Err-clause-quiet : goal.returns-in-Err-clause-quiet
+returns-in-Err-clause-quiet g c = quiet_read c.next_command.result c.in-Err.fail c.read_fault.result _ _ c.in-Err.is c.read_fault.ensures c.next_command.ensures.heard
 
 pub returns-in-Err-feed-clause-err : goal.returns-in-Err-feed-clause-err
 returns-in-Err-feed-clause-err g c = λ text faults path given h.
@@ -23,6 +26,9 @@ returns-in-Err-feed-clause-err g c = λ text faults path given h.
     let refused = rw c.in-Err-feed.is at (c.feed.ensures.err k.loading k.is) in
     (k, on.starts, refused.explained)) (step g.N.Namer.id_of h.are.loading.aims c.in-Ok-Some.command) (let refused = rw c.in-Err-feed.is at (c.feed.ensures.err h.are.loading h.are.is) in refused.explained) in
     fails_off g.N.Namer.id_of g.S.Source.tells (option_copied c.args.head) text faults c.next_command.new.self.place.faults c.feed_fault.result (subst (FailsSo g.N.Namer.id_of g.S.Source.tells text faults c.next_command.new.self.place.faults) (sym c.feed_fault.ensures) failed)
+
+pub returns-in-Err-feed-clause-quiet : goal.returns-in-Err-feed-clause-quiet
+returns-in-Err-feed-clause-quiet g c = λ other. rw c.in-Ok-Some.is at c.next_command.ensures.quiet
 
 pub returns-in-Ok-clause-given : goal.returns-in-Ok-clause-given
 returns-in-Ok-clause-given g c = λ text faults path given h. record {
@@ -41,6 +47,9 @@ returns-in-Ok-clause-given g c = λ text faults path given h. record {
 
 pub returns-in-Ok-clause-still : goal.returns-in-Ok-clause-still
 returns-in-Ok-clause-still g c = still_open c.next_command.new.self c.next_command.result c.in-Ok-Some.command (c.in-Ok-Some.is ∙ ap Ok c.in-Ok-Some.field-0-is) c.next_command.ensures.ending
+
+pub returns-in-Ok-clause-quiet : goal.returns-in-Ok-clause-quiet
+returns-in-Ok-clause-quiet g c = λ other. rw c.in-Ok-Some.is at c.next_command.ensures.quiet
 
 pub returns-in-Ok-clause-onward : goal.returns-in-Ok-clause-onward
 returns-in-Ok-clause-onward g c = rw c.in-Ok-Some.field-0-is at (rw c.in-Ok-Some.is at c.next_command.ensures.onward)
@@ -68,3 +77,6 @@ returns-in-Ok-None-clause-still g c = last_still _ c.last_part.result c.last_par
 
 pub returns-in-Ok-None-clause-onward : goal.returns-in-Ok-None-clause-onward
 returns-in-Ok-None-clause-onward g c = last_still _ c.last_part.result c.last_part.ensures.last
+
+pub returns-in-Ok-None-clause-quiet : goal.returns-in-Ok-None-clause-quiet
+returns-in-Ok-None-clause-quiet g c = λ other. rw c.in-Ok-None.is at c.next_command.ensures.quiet
