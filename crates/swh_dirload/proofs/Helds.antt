@@ -1,5 +1,5 @@
 -- The contents of files that were read are held.
-use Rattle.std.proofs.Common.{◌≡◌, ◌⊎◌, inl, ℕ, zero, suc, List, [], ◌∷◌, ◌++◌, get_or, set, Contains, refl, sym, subst}
+use Rattle.std.proofs.Common.{◌≡◌, ◌⊎◌, inl, inr, ℕ, zero, suc, ◌+◌, List, [], ◌∷◌, ◌++◌, get_or, set, Contains, refl, sym, subst}
 use Rattle.std.specs.Prelude.{Result, Ok, Err, IfOk, OnOk}
 use Rattle.std.specs.List.{AllByRecursion}
 use Rattle.swh_base.specs.declared.kind.Kind.{Kind}
@@ -15,7 +15,7 @@ use Rattle.swh_dirmade.specs.declared.place.Place.{Place}
 use Rattle.swh_dirmade.specs.declared.place.Place.TheVariants as stands
 use Rattle.swh_dirmade.specs.Giving.{Keeps}
 use Rattle.swh_dirmade.specs.Making.{IsHeld}
-use Rattle.swh_dirmade.proofs.Built.{given_there, held_more}
+use Rattle.swh_dirmade.proofs.Built.{grows, given_there, held_more}
 use Rattle.swh_dirmade.specs.declared.spot.Spot.{Spot}
 use Rattle.swh_dirload.specs.declared.lookup.Lookup.{Lookup}
 use Rattle.swh_dirload.specs.declared.lookup.Lookup.TheVariants.{Here, Free, Lost}
@@ -23,7 +23,12 @@ use Rattle.swh_dirload.specs.declared.taking.Taken.{Taken}
 use Rattle.swh_dirload.specs.declared.taking.Taken.TheVariants.{Yes, No}
 use Rattle.swh_dirload.specs.Index.{LooksUp}
 use Rattle.swh_dirload.specs.Lines.{SetsMode, TakesMode, AddsProject}
-use Rattle.swh_dirload.specs.Reading.{GivesContent}
+use Rattle.swh_outside.specs.Folder.{Tree}
+use Rattle.swh_outside.specs.declared.folder.What.{What}
+use Rattle.swh_outside.specs.declared.folder.What.TheVariants.{File, Folder, Other}
+use Rattle.swh_dirload.specs.Items.{Item}
+use Rattle.swh_dirload.specs.Loading.{HasTable}
+use Rattle.swh_dirload.specs.Reading.{GivesContent, IsRead, ReadsAll}
 
 module _ (id : Kind → List ℕ → List ℕ) where
   pub holds_content : (old : List Entry) (bytes : List ℕ) (new : List Entry) (own : List ℕ) → own ≡ id Content bytes → GivesContent old bytes new → IsHeld (names_of_made id (made new)) (stands.File 100644 own)
@@ -62,3 +67,32 @@ pub project_held : (names : List Name) (above : ℕ) (name id : List ℕ) (spots
 project_held names above name id spots spots_now old new (Ok Yes) h all = subst (AllByRecursion (IsHeld names)) (sym h.2) (all_push (IsHeld names) old (stands.Project id) all tt)
 project_held names above name id spots spots_now old new (Ok No) h all = subst (AllByRecursion (IsHeld names)) (sym h.1) all
 project_held names above name id spots spots_now old new (Err e) h all = tt
+
+module _ (id : Kind → List ℕ → List ℕ) (tree : Tree) where
+  read_held : (path : List ℕ) (what : What) (count : ℕ) (old : List Entry) (place : Place) (new : List Entry) → IsRead id tree path what count old place new → Keeps old new × IsHeld (names_of_made id (made new)) place
+  read_held path File count old place new h =
+      let held : IsHeld (names_of_made id (made new)) (stands.File 100644 (id Content h.0)) = holds_content id old h.0 new (id Content h.0) refl h.4 in
+      (λ m c. grows old new h.4.0 h.4.2 m c, subst (IsHeld (names_of_made id (made new))) (sym h.3) held)
+  read_held path Folder count old place new h =
+      (λ m c. subst (λ (es : List Entry). Contains (made es) m) (sym h.2) c, subst (IsHeld (names_of_made id (made new))) (sym h.1) tt)
+  read_held path Other count old place new h = absurd h
+
+  -- the contents of all files that are read are held
+  reads_held : (at : ℕ) (old : List Entry) (items : List Item) (places : List Place) (now : ℕ) (new : List Entry) → ReadsAll id tree at old items places now new → Keeps old new × AllByRecursion (IsHeld (names_of_made id (made new))) places
+  reads_held at old [] [] now new h = (λ m c. subst (λ (es : List Entry). Contains (made es) m) h.1 c, tt)
+  reads_held at old [] (place ∷ places) now new h = absurd h
+  reads_held at old (item ∷ items) [] now new h = absurd h
+  reads_held at old (item ∷ items) (place ∷ places) now new h =
+      let first = read_held item.0 item.1 h.0 old place h.1 h.2 in
+      let rest = reads_held (at + h.0) h.1 items places now new h.4 in
+      (λ m c. rest.0 m (first.0 m c), (held_more (names_of_made id (made h.1)) (names_of_made id (made new)) place (λ n c. more_names id (made h.1) (made new) n rest.0 c) first.1, rest.1))
+
+  pub table_held : (spots : List Spot) (places : List Place) (contents : List Entry) → HasTable id tree spots places contents → AllByRecursion (IsHeld (names_of_made id (made contents))) places
+  table_held spots places contents has = (reads_held 0 [] has.items places has.total contents has.reads).1
+
+-- the content of these bytes, as it is given
+abbrev pub content_entry : (Kind → List ℕ → List ℕ) → List ℕ → Entry
+content_entry id bytes = record { name = record { kind = Content; id = id Content bytes }; body = bytes; kids = [] }
+
+pub gives_content : (id : Kind → List ℕ → List ℕ) (old : List Entry) (bytes : List ℕ) → GivesContent old bytes (old ++ content_entry id bytes ∷ [])
+gives_content id old bytes = (content_entry id bytes, refl, inr refl)

@@ -8,19 +8,17 @@ use Rattle.swh_base.specs.declared.entry.Entry.{Entry}
 use Rattle.swh_base.specs.declared.name.Name.{Name}
 use Rattle.swh_base.specs.Snapshot.{IsSnapshot, snapshot_name}
 use Rattle.swh_outside.specs.Folder.{Tree}
-use Rattle.swh_object.specs.Object.{IsObject}
 use Rattle.swh_model.specs.Meaning.{Made}
 use Rattle.swh_made.specs.Giving.{AreNew}
 use Rattle.swh_made.specs.Making.{made_from, made, name_of, names_of_made, object_of}
 use Rattle.swh_made.specs.Whole.{names_of}
-use Rattle.swh_made.proofs.Elements.{contains_map, each_is, from_map}
+use Rattle.swh_made.proofs.Elements.{contains_map}
 use Rattle.swh_made.proofs.Wholes.{same_names, new_whole}
 use Rattle.swh_dirmade.specs.declared.place.Place.{Place}
 use Rattle.swh_dirmade.specs.declared.place.Place.TheVariants as stands
 use Rattle.swh_dirmade.specs.declared.spot.Spot.{Spot}
 use Rattle.swh_dirmade.specs.Directories.{GivesDirectories}
 use Rattle.swh_dirmade.specs.Giving.{GivesOne}
-use Rattle.swh_dirmade.specs.Making.{directory_name}
 use Rattle.swh_dirmade.specs.Sizes as sizes
 use Rattle.swh_dirmade.specs.Snapshots.{head, GivesSnapshot}
 use Rattle.swh_dirmade.specs.Spots.{Places, IsTable}
@@ -33,7 +31,7 @@ use Rattle.swh_dirload.specs.Loading.{HasTable, ExplainsLength, IsLongAfter, Mak
 use Rattle.swh_dirload.specs.Meaning.{ReadsFolder, HasFolder, ReadsBoth, MeansFolder, ExplainsFolder}
 use Rattle.swh_dirload.specs.Places.{places_of}
 use Rattle.swh_dirload.specs.Reading.{ExplainsReading}
-use Rattle.swh_dirload.specs.Root.{HasRoot, IsOfDirectory}
+use Rattle.swh_dirload.specs.Root.{HasRoot}
 use Rattle.swh_dirload.specs.Walk.{IsWalk, ExplainsWalk}
 use Rattle.swh_dirload.proofs.Long.{kinds, all_short, first_long, root_stands}
 use Rattle.swh_dirload.proofs.Onward.{same_on}
@@ -75,13 +73,6 @@ module _ (id : Kind → List ℕ → List ℕ) where
       let there : Contains (made new) (object_of Snapshot s.body) = subst (Contains (made new)) s.made (given_there mid new s.object s.gives) in
       let named : Contains (names_of_made id (made new)) (snapshot_name (id Snapshot s.body)) = contains_map (name_of id) (made new) (object_of Snapshot s.body) there in
       subst (λ (ns : List Name). Contains ns (snapshot_name own)) (same_names id new (new_whole id new fresh).each) (subst (λ (i : List ℕ). Contains (names_of_made id (made new)) (snapshot_name i)) (sym s.named) named)
-
-  -- of objects that are made one has the name
-  pub directory_of : (objects : List Entry) (root : List ℕ) → AreNew id [] objects → Contains (names_of_made id (made objects)) (directory_name root) → IsOfDirectory id root
-  directory_of objects root fresh has =
-      let each = (new_whole id objects fresh).each in
-      let found = from_map (λ (e : Entry). e.name) objects (directory_name root) (subst (λ (ns : List Name). Contains ns (directory_name root)) (same_names id objects each) has) in
-      record { object = found.0; is = each_is (IsObject id) objects found.0 each found.1; named = found.2 }
 
   module _ (tree : Tree) where
     pub walk_breaks : (text : List ℕ) (fault : DirFault) → ExplainsWalk tree fault → ExplainsFolder id tree text fault

@@ -8,13 +8,13 @@ ghost use Rattle.swh_dirload.specs.Meaning.{ExplainsFolder};
 ghost use Rattle.swh_dirload.specs.Root.{HasRoot, IsOfDirectory};
 
 use crate::fault::DirFault;
-use crate::loading::{Standing, check_lengths, read_folder};
+use crate::loading::{Standing, check_lengths, name_standing};
 use std::alloc::Global;
 use swh_base::Namer;
-use swh_dirmade::{Given, make_directories};
+use swh_dirmade::name_directories;
 use swh_outside::Folder;
 
-/// The id of the directory of a folder that has no listing.
+/// The id of the directory of a folder that has no listing. No more than one file is held at a time.
 ///
 /// # Errors
 ///
@@ -38,16 +38,8 @@ pub fn name_folder<N: Namer, F: Folder>(
     ensures quiet { IsQuietBut (F.faults folder.old) (F.faults folder.new) NotRead result }
     ensures cause { IsErrOf result NotRead → Rose (F.faults folder.old) (F.faults folder.new) }
 {
-    let mut given = Given::new(alloc);
-    let Standing { spots, places } = read_folder(alloc, namer, folder, &mut given)?;
+    let Standing { spots, places } = name_standing(alloc, namer, folder)?;
     check_lengths(alloc, spots.as_slice(), places.as_slice())?;
-    let root = make_directories(
-        alloc,
-        namer,
-        spots.as_slice(),
-        places.as_slice(),
-        &mut given,
-    )?;
-    let _objects = given.into_objects();
+    let root = name_directories(alloc, namer, spots.as_slice(), places.as_slice())?;
     Ok(root)
 }

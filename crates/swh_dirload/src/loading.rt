@@ -1,6 +1,7 @@
 //! A folder with its listing, loaded.
 ghost use Rattle.std.specs.Prelude.{◌≡◌, ◌≤◌, ◌⊎◌, [], List, ℕ, Some, IfOk, IfErr, IsErrOf, OnOk, length};
 ghost use Rattle.std.specs.List.{AllByRecursion};
+ghost use Rattle.swh_base.specs.declared.entry.Entry.{Entry};
 ghost use Rattle.swh_base.specs.declared.name.Name.{Name};
 ghost use Rattle.swh_outside.specs.Faults.{Rose};
 ghost use Rattle.swh_fastlex.specs.ReadOn.{IsQuietBut};
@@ -21,7 +22,7 @@ ghost use Rattle.swh_dirload.specs.Modes.{Tells, text_of, IsLeft, IsQuietIn, Ros
 use crate::fault::DirFault;
 use crate::listing::take_lines;
 use crate::lookup::index_of;
-use crate::reading::read_files;
+use crate::reading::{name_files, read_files};
 use crate::spot::spots_of;
 use crate::walking::walk;
 use std::alloc::Global;
@@ -60,6 +61,33 @@ pub fn read_folder<N: Namer, F: Folder>(
 {
     let found = walk(alloc, folder)?;
     let places = read_files(alloc, namer, folder, found.as_slice(), given)?;
+    let spots = spots_of(alloc, found.as_slice())?;
+    Ok(Standing { spots, places })
+}
+
+/// What stands in a folder, with the ids of the contents of its files, which are let go one after another.
+pub fn name_standing<N: Namer, F: Folder>(
+    alloc: Global,
+    namer: &N,
+    folder: &mut F,
+) -> Result<Standing, DirFault>
+    ensures has { F.tells → IfOk result (λ s. (contents : List Entry)
+        × HasTable N.id_of (F.holds folder.old) s.spots.items s.places.items contents) }
+    ensures table { IfOk result (λ s. IsTable s.spots.items) }
+    ensures count { IfOk result (λ s. length s.places.items ≡ length s.spots.items) }
+    ensures held { IfOk result (λ s. (contents : List Entry)
+        × AllByRecursion (IsHeld (names_of_made N.id_of (made contents))) s.places.items) }
+    ensures may { IfErr result MayRefusePlain }
+    ensures err { F.tells → (text : List ℕ) → IfErr result (ExplainsFolder N.id_of (F.holds folder.old) text) }
+
+    ensures same { F.tells → F.holds folder.new ≡ F.holds folder.old }
+    ensures same_path { F.opened_at folder.new ≡ F.opened_at folder.old }
+    ensures later { F.faults folder.old ≤ F.faults folder.new }
+    ensures quiet { IsQuietBut (F.faults folder.old) (F.faults folder.new) NotRead result }
+    ensures cause { IsErrOf result NotRead → Rose (F.faults folder.old) (F.faults folder.new) }
+{
+    let found = walk(alloc, folder)?;
+    let places = name_files(alloc, namer, folder, found.as_slice())?;
     let spots = spots_of(alloc, found.as_slice())?;
     Ok(Standing { spots, places })
 }
