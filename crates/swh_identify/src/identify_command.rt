@@ -1,5 +1,6 @@
 // The command `identify`.
 ghost use Rattle.std.specs.Prelude.{◌≡◌, ◌≢◌, ◌+◌, ◌<◌, ◌≤◌, ℕ, List, Some, IfOk, IsErrOf, length, codes};
+ghost use Rattle.swh_fastlex.specs.ReadOn.{IsQuietBut};
 ghost use Rattle.swh_fastlex.specs.Whole.{IsAllThatWasLeft, GivesAtMost};
 ghost use Rattle.swh_fastlex.specs.declared.fault.SourceFault.TheVariants.{Failed, Limit};
 ghost use Rattle.swh_answers.specs.Refusal.{refusal};
@@ -121,6 +122,7 @@ fn read_body<S: Source>(alloc: Global, source: &mut S) -> Result<Vec<u8>, Source
     ensures given { S.tells → GivesAtMost (S.given source.old) (S.given source.new) (BODY_LIMIT + 1) }
     ensures same_path { S.path source.new ≡ S.path source.old }
     ensures later { S.faults source.old ≤ S.faults source.new }
+    ensures quiet { IsQuietBut (S.faults source.old) (S.faults source.new) Failed result }
     ensures cause { IsErrOf result Failed → Rose (S.faults source.old) (S.faults source.new) }
 {
     read_source_reserved(alloc, source, BODY_LIMIT as usize)
@@ -139,6 +141,8 @@ pub fn identify<N: Namer, O: Origins>(
     ensures one_of { IsIdentifyAnswer N.id_of kind result }
     ensures ends { O.tells → IdentifyEnds N.id_of kind (O.file_at desk.old path.now) result }
     ensures later { O.faults desk.old ≤ O.faults desk.new }
+    // Nothing fails unheard: behind a limit, too, nothing is read whose failure would not be told.
+    ensures quiet { (result ≡ OutsideSource → ⊥) → O.faults desk.new ≡ O.faults desk.old }
     ensures cause { result ≡ OutsideSource → Rose (O.faults desk.old) (O.faults desk.new) }
 
     // A body of its kind is named, unless memory runs out, where the desk did not fail.

@@ -1,6 +1,7 @@
 // The command `identify dir`.
 ghost use Rattle.std.specs.Prelude.{◌≡◌, ◌≤◌, ℕ, IfOk};
 ghost use Rattle.swh_outside.specs.Faults.{Rose};
+ghost use Rattle.swh_dirload.specs.declared.fault.DirFault.TheVariants.{ReadFault as NotRead};
 ghost use Rattle.swh_dirload.specs.May.{IsAbovePlain, MayRefusePlain};
 ghost use Rattle.swh_answers.specs.Answers.{TellsLine};
 ghost use Rattle.swh_identify.specs.IdentifyFolderCommand.{
@@ -67,7 +68,8 @@ fn tell_other(alloc: Global, path: &[u8]) -> Answer
 // The answer that tells why there is no directory.
 fn tell_fault(alloc: Global, fault: &DirFault) -> Answer
     requires { MayRefusePlain fault.now }
-    ensures { AnswersFault fault.now result }
+    ensures answers { AnswersFault fault.now result }
+    ensures failed { fault.now ≡ NotRead → result ≡ OutsideFolder }
 {
     match fault {
         DirFault::OtherKind { path } => tell_other(alloc, path.as_slice()),
@@ -88,6 +90,8 @@ pub fn identify_folder<N: Namer, O: Origins>(
     ensures one_of { IsFolderAnswer N.id_of result }
     ensures ends { O.tells → FolderEnds N.id_of (O.folder_at desk.old path.now) result }
     ensures later { O.faults desk.old ≤ O.faults desk.new }
+    // Nothing fails unheard.
+    ensures quiet { (result ≡ OutsideFolder → ⊥) → O.faults desk.new ≡ O.faults desk.old }
     ensures cause { result ≡ OutsideFolder → Rose (O.faults desk.old) (O.faults desk.new) }
 {
     let mut folder = match desk.folder(path) {
