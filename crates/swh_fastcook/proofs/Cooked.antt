@@ -1,5 +1,5 @@
 -- A name is cooked: a content as its bytes, all else as a stream.
-use Rattle.std.proofs.Common.{◌≡◌, ◌≢◌, inl, inr, ℕ, Option, Some, None, List, [], ◌∷◌, ◌++◌, refl, sym, ap, ◌∙◌, subst}
+use Rattle.std.proofs.Common.{◌≡◌, ◌≢◌, inl, inr, ℕ, Option, Some, None, List, [], ◌∷◌, refl, sym, ap, ◌∙◌, subst}
 use Rattle.std.specs.Prelude.{Contains}
 use Rattle.swh_base.specs.declared.kind.Kind.{Kind}
 use Rattle.swh_base.specs.declared.kind.Kind.TheVariants.{Content, Directory, Revision as RevisionKind, Release as ReleaseKind, Snapshot}
@@ -12,13 +12,9 @@ use Rattle.swh_postorder.proofs.Trips.{none_in, only}
 use Rattle.swh_carried.specs.declared.fault.Why.{Why}
 use Rattle.swh_carried.specs.declared.fault.Why.TheVariants.{Cycle, Revision, Release, Empty, Dots, Text, Path, Branch, Tagless, Refs, Length}
 use Rattle.swh_carried.specs.Uncarried.{BreaksNone}
-use Rattle.swh_carried.specs.declared.fault.CookFault.{CookFault}
-use Rattle.swh_carried.specs.declared.fault.CookFault.TheVariants.{NotHeld, Uncarried, WriteFault, Memory}
 use Rattle.swh_fastcarried.specs.Rules.{IsOddKind, IsOddObject, BreaksIn}
 use Rattle.swh_fastcarried.proofs.FirstRules.{rule_none}
-use Rattle.swh_written.specs.Sinks.{IsTaken}
-use Rattle.swh_fastcook.specs.Cause.{Breaks}
-use Rattle.swh_fastcook.specs.Cook.{BreaksStream, LeadsHead, IsCarriedStream, IsTextOfKind, IsCookedText, IsCooked, IsFrontCooked, ExplainsNoText}
+use Rattle.swh_fastcook.specs.Cook.{BreaksStream, LeadsHead, IsCarriedStream, IsTextOfKind, IsCookedText}
 use Rattle.swh_fastcook.specs.Ready.{IsReady}
 use Rattle.swh_fastcook.specs.Stream.{IsStreamOf, IsStreamText}
 use Rattle.swh_fastcook.proofs.Loads.{content_few}
@@ -93,12 +89,6 @@ module _ (bodies : Bodies) (children_of : Name → Option (List Name)) (graph : 
     pub not_snapshot : (target : List ℕ) → LeadsHead bodies root target → ⊥
     not_snapshot target h = let e : Content ≡ Snapshot = sym kind ∙ h.kind in cc
 
-    pub content_cooked : (tells : Type 0) (old new : List ℕ) → (tells → new ≡ old ++ body) → IsCooked bodies children_of root tells old new None
-    content_cooked tells old new took = record { carried = content_carried; is_head = not_snapshot; text = body; is = content_text; took = took }
-
-    pub content_front : (tells : Type 0) (old new : List ℕ) → (tells → IsTaken old body new) → IsFrontCooked bodies children_of root tells old new
-    content_front tells old new took = record { carried = content_carried; text = body; is = content_text; took = took }
-
 -- ---- streams
 
 module _ (bodies : Bodies) (children_of : Name → Option (List Name)) (root : Name) (other : root.kind ≢ Content) (order : List Name) (head : Option (List ℕ)) (ready : IsReady bodies children_of root order head) where
@@ -115,11 +105,6 @@ module _ (bodies : Bodies) (children_of : Name → Option (List Name)) (root : N
       by ReleaseKind k s = s
       by Snapshot k s = s
 
-  pub stream_front : (tells : Type 0) (old new : List ℕ) → ((text : List ℕ) → IsStreamText bodies order root text → tells → IsTaken old text new) → IsFrontCooked bodies children_of root tells old new
-  stream_front tells old new took =
-      let t = ready.has_text in
-      record { carried = ready_carried; text = t.text; is = stream_text t.text t.is; took = took t.text t.is }
-
 -- what is carried is plain
 pub carried_plain : (bodies : Bodies) (root : Name) (order : List Name) → ((n : Name) → Contains order n → BreaksNone (BreaksStream bodies root order) n) → (n : Name) → Contains order n → IsOddObject bodies n → ⊥
 carried_plain bodies root order none n there odd = by n.kind refl odd
@@ -130,13 +115,3 @@ carried_plain bodies root order none n there odd = by n.kind refl odd
     by RevisionKind k h = none n there Revision h
     by ReleaseKind k h = none n there Release h
     by Snapshot k h = h
-
--- ---- why a name is not cooked
-
-module _ (bodies : Bodies) (children_of : Name → Option (List Name)) (root : Name) (tells same : Type 0) (old new : List ℕ) where
-  -- a front was put
-  pub broken_off : (before now : ℕ) (fault : CookFault) → Breaks before now fault → IsFrontCooked bodies children_of root tells old new → ExplainsNoText bodies children_of root tells same old new fault
-  broken_off before now (NotHeld missing) h f = absurd h
-  broken_off before now (Uncarried name why) h f = absurd h
-  broken_off before now WriteFault h f = f
-  broken_off before now Memory h f = inr f

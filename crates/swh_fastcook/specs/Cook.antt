@@ -1,18 +1,15 @@
--- How the cooking of a name ends, and what it leaves in the sink.
-use Rattle.std.specs.Prelude.{◌≡◌, ◌≢◌, ◌⊎◌, ℕ, Option, Some, None, List, ◌++◌, Contains, codes}
+-- What a name is cooked to, and what of it a stream cannot carry.
+use Rattle.std.specs.Prelude.{◌≡◌, ◌≢◌, ℕ, Option, Some, None, List, Contains, codes}
 use Rattle.swh_base.specs.declared.kind.Kind.{Kind}
 use Rattle.swh_base.specs.declared.kind.Kind.TheVariants.{Content, Directory, Revision, Release, Snapshot}
 use Rattle.swh_base.specs.declared.name.Name.{Name}
 use Rattle.swh_base.specs.Snapshot.{SnapshotBranch, ToBranch}
 use Rattle.swh_model.specs.Archive.{Bodies, body_of}
 use Rattle.swh_graph.specs.Holding.{HoldsSnapshot}
-use Rattle.swh_postorder.specs.Postorder.{IsPostorder, IsFirstMissing}
+use Rattle.swh_postorder.specs.Postorder.{IsPostorder}
 use Rattle.swh_carried.specs.Uncarried.{IsUncarried, AreCarried}
 use Rattle.swh_carried.specs.declared.fault.Why.{Why}
-use Rattle.swh_carried.specs.declared.fault.CookFault.{CookFault}
-use Rattle.swh_carried.specs.declared.fault.CookFault.TheVariants.{NotHeld, Uncarried, WriteFault, Memory}
 use Rattle.swh_fastcarried.specs.Rules.{BreaksIn}
-use Rattle.swh_written.specs.Sinks.{IsTaken}
 use Rattle.swh_fastcook.specs.Length.{IsLongStream}
 use Rattle.swh_fastcook.specs.Loaded.{LoadsMany}
 use Rattle.swh_fastcook.specs.Stream.{IsStreamOf}
@@ -58,26 +55,3 @@ module _ (bodies : Bodies) (children_of : Name → Option (List Name)) (root : N
   -- the same, by the kind of the root itself
   abbrev pub IsCookedText : List ℕ → Type 0
   IsCookedText text = IsTextOfKind root.kind text
-
-  -- All is carried and was written. What was taken is told by a sink that tells.
-  pub record IsCooked (tells : Type 0) (old new : List ℕ) (head : Option (List ℕ)) : Type 0 where
-    pub carried : IsCarriedStream
-    pub is_head : IsHeadOf bodies root head
-    pub text : List ℕ
-    pub is : IsCookedText text
-    pub took : tells → new ≡ old ++ text
-
-  -- All is carried, and a front of it was written.
-  pub record IsFrontCooked (tells : Type 0) (old new : List ℕ) : Type 0 where
-    pub carried : IsCarriedStream
-    pub text : List ℕ
-    pub is : IsCookedText text
-    pub took : tells → IsTaken old text new
-
-  -- Why a text is not written whole. Of the first two nothing was put: `same` says that the sink is as it was. Want of memory
-  -- comes before all is known, or behind a front of the text.
-  abbrev pub ExplainsNoText : Type 0 → Type 0 → List ℕ → List ℕ → CookFault → Type 0
-  ExplainsNoText tells same old new (NotHeld missing) = IsFirstMissing children_of root missing × same
-  ExplainsNoText tells same old new (Uncarried name why) = IsUncarriedStream name why × same
-  ExplainsNoText tells same old new WriteFault = IsFrontCooked tells old new
-  ExplainsNoText tells same old new Memory = same ⊎ IsFrontCooked tells old new

@@ -1,14 +1,13 @@
-//! Cooking: a name is written as a stream (git-fast-import(1)) of what is reached from it, and a content as its bytes.
+//! Cooking: what is reached from a name that is no content is written as a stream (git-fast-import(1)).
 //! Stands on `swh_carried`, which has the order of the objects, on `swh_marks`, which has their marks, on `swh_fastcarried`,
 //! which has what a stream cannot carry, on `swh_pathwalk` and `swh_fasttext`, which have the files of a tree and the text of
 //! each command, on `swh_pathsums`, which has how long the lines of a tree's files are, and on `swh_written`, which takes a text
 //! piece by piece.
-//! Callers may rely on: the first name that is not held is told, or else the first object that a stream cannot carry, before
-//! anything is put; what is put is the text that the definition of streams gives, or a front of it at a failure.
+//! Callers may rely on: before anything is put the first name that is not held is told, or else the first object that a
+//! stream cannot carry; what is put is the text that the definition of streams gives, or a front of it at a failure.
 #![tactic(auto)]
 
 mod commits;
-mod cooking;
 mod ends;
 mod files;
 mod heads;
@@ -23,7 +22,6 @@ mod tips;
 mod weighed;
 
 pub use commits::{write_blob, write_commit, write_tag};
-pub use cooking::cook;
 pub use ends::write_end;
 pub use files::write_files;
 pub use heads::head_of;

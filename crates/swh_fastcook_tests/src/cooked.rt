@@ -5,7 +5,7 @@ use std::alloc::Global;
 use std::test::Fail;
 use swh_base::{Bytes, Kind, Name};
 use swh_carried::CookFault;
-use swh_graph_fixtures::objects::{EMPTY, FIRST, OF_BLOB, VERSION_1};
+use swh_graph_fixtures::objects::{FIRST, OF_BLOB};
 use swh_memory_input::MemorySink;
 use swh_replay::Replayed;
 
@@ -265,10 +265,8 @@ from 0000000000000000000000000000000000000000\n\
 \n\
 done\n";
 
-/// Roots, their texts and their heads. A content is its bytes, and no stream.
+/// Roots, their texts and their heads.
 const CASES: &[(&[u8], &[u8], Option<&[u8]>)] = &[
-    (VERSION_1, b"version 1\n", None),
-    (EMPTY, b"", None),
     (FIRST, FIRST_STREAM, None),
     (OF_BLOB, BLOB_STREAM, None),
     (WHOLE_NAME, WHOLE_STREAM, Some(b"refs/heads/main")),

@@ -5,8 +5,7 @@ use std::test::Fail;
 use swh_base::Kind;
 use swh_carried::{CookFault, Why};
 use swh_graph_fixtures::objects::{
-    CIRCLE, CUT, DANGLING, FIRST, OF_ABSENT, OF_BLOB, ON_CUT, SELF, TO_BLOB, TREELESS, VERSION_1,
-    WHOLE,
+    CIRCLE, CUT, DANGLING, FIRST, OF_ABSENT, OF_BLOB, ON_CUT, SELF, TO_BLOB, TREELESS, WHOLE,
 };
 use swh_replay::Replayed;
 
@@ -247,7 +246,6 @@ revision refs/heads/main\020:\
 ];
 /// Roots, and the first object that is not carried, if there is one, by the first rule that it breaks.
 const CASES: &[(&[u8], Option<(&[u8], Why)>)] = &[
-    (VERSION_1, None),
     (FIRST, None),
     (OF_BLOB, None),
     (WHOLE, None),
@@ -279,10 +277,6 @@ const CASES: &[(&[u8], Option<(&[u8], Why)>)] = &[
 
 /// Roots, and the first name that the walk enters and that is not held.
 const MISSING: &[(&[u8], &[u8])] = &[
-    (
-        b"swh:1:cnt:2222222222222222222222222222222222222222",
-        b"swh:1:cnt:2222222222222222222222222222222222222222",
-    ),
     (
         b"swh:1:snp:2222222222222222222222222222222222222222",
         b"swh:1:snp:2222222222222222222222222222222222222222",

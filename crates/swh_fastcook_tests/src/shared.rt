@@ -1,12 +1,16 @@
 //! What the tests of cooking share.
+ghost use Rattle.std.specs.Prelude.{◌≢◌};
+ghost use Rattle.swh_base.specs.declared.kind.Kind.TheVariants.{Content as ContentKind};
+
 use std::alloc::Global;
 use std::test::Fail;
 use swh_base::{Bytes, Kind, Name};
 use swh_carried::CookFault;
-use swh_fastcook::cook;
+use swh_fastcook::{make_ready, write_stream};
 use swh_graph_fixtures::objects::OBJECTS;
 use swh_graph_fixtures::{add, archive_of};
 use swh_memory_input::MemorySink;
+use swh_model::Look;
 use swh_replay::Replayed;
 use swh_swhid::{core_text, parse_core};
 
@@ -48,7 +52,26 @@ pub fn push_id(body: &mut Vec<u8>, name: &Name) -> Result<(), Fail> {
     }
 }
 
-/// What cooking answers of a root that is no directory.
+/// Writes the stream of all that is reached from a root, and answers its head.
+fn cook_stream<L: Look>(
+    alloc: Global,
+    look: &L,
+    root: Name,
+    sink: &mut MemorySink,
+) -> Result<Option<Bytes>, CookFault>
+    requires { root.kind ≢ ContentKind }
+{
+    let ready = match make_ready(alloc, look, root) {
+        Ok(ready) => ready,
+        Err(fault) => return Err(fault),
+    };
+    match write_stream(alloc, look, &ready.marks, root, sink) {
+        Ok(()) => Ok(ready.head),
+        Err(fault) => Err(fault),
+    }
+}
+
+/// What the writing of a stream answers of a root that is neither a content nor a directory.
 pub fn cooked(
     alloc: Global,
     shown: &Replayed,
@@ -56,10 +79,8 @@ pub fn cooked(
     sink: &mut MemorySink,
 ) -> Result<Option<Bytes>, CookFault> {
     match root.kind {
-        Kind::Directory => Err(CookFault::Memory),
-        Kind::Content | Kind::Revision | Kind::Release | Kind::Snapshot => {
-            cook(alloc, shown, root, sink)
-        }
+        Kind::Content | Kind::Directory => Err(CookFault::Memory),
+        Kind::Revision | Kind::Release | Kind::Snapshot => cook_stream(alloc, shown, root, sink),
     }
 }
 
