@@ -8,19 +8,18 @@ revisions; and a file, a repository of the folder alone and one of the same chai
 for as many paths that are none takes is subtracted, which is mostly the opening. `raw/` of the content may be no slower
 than half the rate of `cat`, the folder's entries may take three times as long as `git cat-file -p` of the tree, and the
 log of the last revision less than twice as long as `git log -100 --format=%H`; it is asked for 100 times in one run, since
-it takes less than an opening differs from the next. Each time is the median of runs in turn. The program is the built one,
-outside the gate.
+it takes less than an opening differs from the next. Each time is the processor's, and the median of runs in turn; where an
+opening takes more than a reply with its opening the script ends. The program is the built one, outside the gate.
 """
 import json
 import os
-import statistics
 import subprocess
 import sys
 import tempfile
-import time
 import typing
 
 from check_archive import CONTENT, DIRECTORY, PERSON, REVISION, Writer, revision_of
+from launched import beyond, launch, launch_well, median_seconds, rounds_of
 from program import find_program
 from verdict import Verdict
 
@@ -41,29 +40,20 @@ class Case(typing.NamedTuple):
     other: list
 
 
-def took(command, buffer):
-    """How long a command takes whose output is read from a pipe."""
-    begun = time.monotonic()
-    with subprocess.Popen(command, stdout=subprocess.PIPE, bufsize=0) as child:
-        while child.stdout.readinto(buffer):
-            pass
-    if child.returncode not in (0, 1):
-        sys.exit("%s: status %d" % (command[0], child.returncode))
-    return time.monotonic() - begun
+def ask(program, case, path):
+    ran = launch(program, "ask", case.archive, *[path] * case.times)
+    if ran.status not in (0, 1):
+        sys.exit("ask %s: status %d" % (path, ran.status))
+    return ran
 
 
 def medians(program, case):
     """What one reply takes beyond an opening, and what its peer takes."""
-    buffer = bytearray(1 << 20)
-    replies, openings, others = [], [], []
-    for _ in range(ROUNDS):
-        openings.append(took([program, "ask", case.archive] + [NO_PATH] * case.times, buffer))
-        replies.append(took([program, "ask", case.archive] + [case.path] * case.times, buffer))
-        others.append(took(case.other, buffer))
-    beyond = statistics.median(replies) - statistics.median(openings)
-    print("%s..: opened in %.3f s, then %.4f s; %s %.4f s"
-          % (case.path[:40], statistics.median(openings), beyond / case.times, case.other[0], statistics.median(others)))
-    return beyond / case.times, statistics.median(others)
+    opened, replied, peer = map(median_seconds, rounds_of(
+        ROUNDS, lambda: ask(program, case, NO_PATH), lambda: ask(program, case, case.path), lambda: launch_well(*case.other)))
+    reply = beyond("asking for " + case.path[:40], replied, opened) / case.times
+    print("%s..: opened in %.3f s, then %.4f s; %s %.4f s" % (case.path[:40], opened, reply, case.other[0], peer))
+    return reply, peer
 
 
 def body_of(program, archive, path):

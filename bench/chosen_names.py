@@ -5,8 +5,8 @@
 
 The chosen ones collide in a hash map of the kit: their keys (the kind's number and the id) begin their search in one
 32nd of the table, where each goes past all that stand there. Finding them takes 32 SHA-1 a file. Loading and opening
-them may take at most one and a half times as long as the others. The script compiles a few lines of C for the map's
-hash with `cc`. The program is the built one, outside the gate.
+them may take at most one and a half times as long as the others, by medians of processor times of rounds in turn. The script
+compiles a few lines of C for the map's hash with `cc`. The program is the built one, outside the gate.
 """
 import hashlib
 import os
@@ -14,8 +14,8 @@ import shutil
 import subprocess
 import sys
 import tempfile
-import time
 
+from launched import launch, median_seconds, rounds_of
 from program import find_program
 from verdict import Verdict
 
@@ -110,29 +110,23 @@ def write_stream(path, numbers):
         file.write(b"\n")
 
 
-def timed(command):
-    begun = time.monotonic()
-    done = subprocess.run(command, stdout=subprocess.PIPE)
-    return time.monotonic() - begun, done
-
-
-def time_load(program, archive, stream):
+def load(program, archive, stream):
     shutil.rmtree(archive, ignore_errors=True)
     subprocess.run([program, "init", archive], check=True, stdout=subprocess.DEVNULL)
     jobs = archive + ".jobs"
     with open(jobs, "w") as file:
         file.write("fast\thttps://e.org/p\t%s\n" % stream)
-    took, done = timed([program, "load", archive, jobs])
-    if b"\tfull\t" not in done.stdout:
-        sys.exit("not full: %r" % done.stdout)
-    return took
+    ran = launch(program, "load", archive, jobs)
+    if b"\tfull\t" not in ran.said:
+        sys.exit("not full: %r" % ran.said)
+    return ran
 
 
-def time_ask(program, archive):
-    took, done = timed([program, "ask", archive, "/api/1/origin/https://none.example/visits/"])
-    if done.returncode != 1 or not done.stdout.startswith(b"404 21\n"):
-        sys.exit("not opened: %r" % done.stdout)
-    return took
+def ask(program, archive):
+    ran = launch(program, "ask", archive, "/api/1/origin/https://none.example/visits/")
+    if ran.status != 1 or not ran.said.startswith(b"404 21\n"):
+        sys.exit("not opened: %r" % ran.said)
+    return ran
 
 
 def main():
@@ -140,17 +134,16 @@ def main():
     count = int(sys.argv[2]) if len(sys.argv) > 2 else FILES
     verdict = Verdict()
     with tempfile.TemporaryDirectory() as folder:
-        chosen, others = choose(folder, count)
-        loads, asks = {}, {}
-        for which, numbers in (("chosen", chosen), ("others", others)):
-            stream = os.path.join(folder, which)
+        runs = []
+        for which, numbers in zip(("chosen", "others"), choose(folder, count)):
+            stream, archive = (os.path.join(folder, which + part) for part in (".stream", ".archive"))
             write_stream(stream, numbers)
-            archive = os.path.join(folder, which + ".archive")
-            loads[which] = min(time_load(program, archive, stream) for _ in range(ROUNDS))
-            asks[which] = min(time_ask(program, archive) for _ in range(ROUNDS))
-        for what, took in (("load", loads), ("open", asks)):
-            print("%s of %d files: chosen %.3f s, others %.3f s" % (what, count, took["chosen"], took["others"]))
-            verdict.at_most("%s of chosen names, times the others" % what, took["chosen"] / took["others"], MOST_TIMES)
+            runs.append(lambda archive=archive, stream=stream: load(program, archive, stream))
+            runs.append(lambda archive=archive: ask(program, archive))
+        chosen_load, chosen_open, load_others, open_others = map(median_seconds, rounds_of(ROUNDS, *runs))
+        for what, chosen, others in (("load", chosen_load, load_others), ("open", chosen_open, open_others)):
+            print("%s of %d files: chosen %.3f s, others %.3f s" % (what, count, chosen, others))
+            verdict.at_most("%s of chosen names, times the others" % what, chosen / others, MOST_TIMES)
     verdict.end()
 
 

@@ -1,5 +1,5 @@
 #!/usr/bin/env python3
-"""Times cooking beside `git fast-export` and `git checkout-index`, in one run.
+"""Times cooking beside `git fast-export` and `git checkout-index`, by the processor's time, in one run.
 
     python3 bench/cook.py [PROGRAM]
 
@@ -14,12 +14,12 @@ was cooked is loaded again, to the same name. The program is the built one, outs
 import json
 import os
 import shutil
+import statistics
 import subprocess
 import sys
 import tempfile
-import time
 
-from launched import launch
+from launched import beyond, launch, launch_well, median_seconds, rounds_of
 from load_folder import make_folder
 from load_history import git, history_commits, make_stream
 from program import find_program
@@ -61,44 +61,41 @@ def remove(out):
 
 
 def cook(program, archive, name, out):
-    """The seconds and the bytes that the cooking of a name takes beside an opening."""
-    opened = [launch(program, "ask", archive, "/api/1/origin/none/get/")[:2] for _ in range(ROUNDS)]
-    cooked = []
-    for _ in range(ROUNDS):
-        remove(out)
-        took, peak, status, said = launch(program, "cook", archive, name, out)
-        if status != 0:
-            sys.exit("not cooked: %r" % said[:200])
-        cooked.append((took, peak))
-    return (min(one[0] for one in cooked) - min(one[0] for one in opened),
-            min(one[1] for one in cooked) - min(one[1] for one in opened), said)
+    remove(out)
+    return launch_well(program, "cook", archive, name, out)
 
 
-def export(bare, scratch, *words):
-    """The seconds that `git fast-export` takes, and how many bytes it writes."""
-    path = os.path.join(scratch, "exported")
-    took = []
-    for _ in range(ROUNDS):
-        begun = time.monotonic()
-        with open(path, "wb") as file:
-            subprocess.run(["git", "-C", bare, "fast-export", "--all", *words], check=True, stdout=file)
-        took.append(time.monotonic() - begun)
-    return min(took), os.path.getsize(path)
+def open_archive(program, archive):
+    return launch(program, "ask", archive, "/api/1/origin/none/get/")
+
+
+def beside(opened, cooked):
+    """The seconds and the bytes that cooking takes beside an opening."""
+    peak = statistics.median(one.peak for one in cooked) - statistics.median(one.peak for one in opened)
+    return beyond("cooking", median_seconds(cooked), median_seconds(opened)), peak
+
+
+def export(bare, path, *words):
+    """Has git write a stream to a path."""
+    return launch_well("sh", "-c", 'out=$1; shift; exec git "$@" >"$out"', "sh", path, "-C", bare, "fast-export", "--all", *words)
 
 
 def measure_history(program, scratch, verdict, what, commits):
     stream, _, objects, _ = make_stream(scratch, what.replace(" ", "-"), commits)
     archive, name = load(program, scratch, "fast\thttps://e.org/p\t%s\trefs/heads/main" % stream)
     out = os.path.join(scratch, "cooked")
-    took, beside, _ = cook(program, archive, name, out)
-    changes, short_bytes = export(stream + ".git", scratch)
-    whole, full_bytes = export(stream + ".git", scratch, "--full-tree")
+    paths = [os.path.join(scratch, which) for which in ("changes", "whole")]
+    opened, cooked, changes, whole = rounds_of(
+        ROUNDS, lambda: open_archive(program, archive), lambda: cook(program, archive, name, out),
+        lambda: export(stream + ".git", paths[0]), lambda: export(stream + ".git", paths[1], "--full-tree"))
+    took, held = beside(opened, cooked)
+    changes, whole = median_seconds(changes), median_seconds(whole)
     print("%s: cooked in %.3f s (%d bytes), written by git fast-export in %.3f s (%d bytes), with --full-tree in %.3f s (%d bytes)"
-          % (what, took, os.path.getsize(out), changes, short_bytes, whole, full_bytes))
+          % (what, took, os.path.getsize(out), changes, os.path.getsize(paths[0]), whole, os.path.getsize(paths[1])))
     _, again = load(program, scratch, "fast\thttps://e.org/p\t%s\trefs/heads/main" % out)
     verdict.as_told("the cooked %s loads to its name" % what, None if again == name else again)
     verdict.at_least("%s, times as fast as fast-export --full-tree" % what, whole / took, LEAST_OF_EXPORT)
-    verdict.at_most("%s, bytes beside what is held" % what, beside, BYTES_AN_OBJECT * objects + WINDOW)
+    verdict.at_most("%s, bytes beside what is held" % what, held, BYTES_AN_OBJECT * objects + WINDOW)
     return changes / took
 
 
@@ -107,25 +104,26 @@ def measure_folder(program, scratch, verdict):
     make_folder(folder, FILES, FOLDERS)
     archive, snapshot = load(program, scratch, "dir\thttps://e.org/p\t%s" % folder)
     head = ask(program, archive, "/api/1/snapshot/%s/" % snapshot.rpartition(":")[2])["branches"]["HEAD"]["target"]
-    out = os.path.join(scratch, "out")
-    took, beside, _ = cook(program, archive, "swh:1:dir:" + head, out)
+    out, made = os.path.join(scratch, "out"), os.path.join(scratch, "made")
     bare = os.path.join(scratch, "new.git")
     git_words = ["git", "--git-dir", bare, "--work-tree"]
     subprocess.run(["git", "init", "--quiet", "--bare", bare], check=True)
     subprocess.run([*git_words, folder, "add", "-A"], check=True)
-    checked = []
-    made = os.path.join(scratch, "made")
-    for _ in range(ROUNDS):
+
+    def check_out():
         shutil.rmtree(made, ignore_errors=True)
         os.mkdir(made)
-        begun = time.monotonic()
-        subprocess.run([*git_words, made, "checkout-index", "-a", "-f"], check=True)
-        checked.append(time.monotonic() - begun)
-    print("folder of %d files: cooked in %.3f s, made by git checkout-index in %.3f s" % (FILES, took, min(checked)))
+        return launch_well(*git_words, made, "checkout-index", "-a", "-f")
+
+    opened, cooked, checked = rounds_of(ROUNDS, lambda: open_archive(program, archive),
+                                        lambda: cook(program, archive, "swh:1:dir:" + head, out), check_out)
+    took, held = beside(opened, cooked)
+    checked = median_seconds(checked)
+    print("folder of %d files: cooked in %.3f s, made by git checkout-index in %.3f s" % (FILES, took, checked))
     named = subprocess.run([program, "identify", "dir", out], stdout=subprocess.PIPE).stdout.strip().decode()
     verdict.as_told("the cooked folder has its name", None if named == "swh:1:dir:" + head else named)
-    verdict.at_least("folder, times as fast as git checkout-index", min(checked) / took, LEAST_OF_CHECKOUT)
-    verdict.at_most("folder, bytes beside what is held", beside, BYTES_AN_OBJECT * (FILES + FOLDERS + 2) + WINDOW)
+    verdict.at_least("folder, times as fast as git checkout-index", checked / took, LEAST_OF_CHECKOUT)
+    verdict.at_most("folder, bytes beside what is held", held, BYTES_AN_OBJECT * (FILES + FOLDERS + 2) + WINDOW)
 
 
 def main():

@@ -1,5 +1,5 @@
 #!/usr/bin/env python3
-"""Times the load of batches beside `sha1sum` and `git unpack-objects` of the same objects, in one run.
+"""Times the load of batches beside `sha1sum` and `git unpack-objects` of the same objects, by the processor's time, in one run.
 
     python3 bench/load_batch.py [PROGRAM]
 
@@ -15,13 +15,13 @@ are git's. The program is the built one, outside the gate.
 import json
 import os
 import shutil
+import statistics
 import subprocess
 import sys
 import tempfile
-import time
 import typing
 
-from launched import launch
+from launched import launch, launch_well
 from load_history import commit, git, large_commits, repository
 from program import find_program
 from verdict import Verdict
@@ -73,19 +73,13 @@ def load(program, scratch, batch, refs):
     subprocess.run([program, "init", archive], check=True, stdout=subprocess.DEVNULL)
     with open(jobs, "w") as file:
         file.write("batch\thttps://e.org/p\t%s\t%s\n" % (batch, refs))
-    took, peak, _, said = launch(program, "load", archive, jobs)
-    if b"\tfull\t" not in said:
-        sys.exit("not full: %r" % said[:200])
-    snapshot = said.strip().rpartition(b":")[2].decode()
+    ran = launch(program, "load", archive, jobs)
+    if b"\tfull\t" not in ran.said:
+        sys.exit("not full: %r" % ran.said[:200])
+    snapshot = ran.said.strip().rpartition(b":")[2].decode()
     asked = subprocess.run([program, "ask", archive, "/api/1/snapshot/%s/" % snapshot], check=True, stdout=subprocess.PIPE)
     branches = json.loads(asked.stdout.split(b"\n", 1)[1])["branches"]
-    return took, peak, {name: branch["target"] for name, branch in branches.items()}
-
-
-def time_sum(batch):
-    begun = time.monotonic()
-    subprocess.run(["sha1sum", batch], check=True, stdout=subprocess.DEVNULL)
-    return time.monotonic() - begun
+    return ran.seconds, ran.peak, {name: branch["target"] for name, branch in branches.items()}
 
 
 def make_pack(bare, pack):
@@ -98,10 +92,7 @@ def time_unpack(scratch, pack):
     fresh = os.path.join(scratch, "new.git")
     shutil.rmtree(fresh, ignore_errors=True)
     repository(fresh)
-    begun = time.monotonic()
-    with open(pack, "rb") as given:
-        subprocess.run(["git", "-C", fresh, "unpack-objects", "-q"], check=True, stdin=given)
-    return time.monotonic() - begun
+    return launch_well("git", "-C", fresh, "unpack-objects", "-q", given=pack).seconds
 
 
 def mean_of_loads(program, scratch, one):
@@ -111,11 +102,12 @@ def mean_of_loads(program, scratch, one):
 
 
 def measure(program, scratch, batches, verdict):
-    """Of each batch the best of some rounds, in which all take turns: seconds of load and of sum; and those of unpacking."""
-    rounds = [[(mean_of_loads(program, scratch, one), time_sum(one.batch)) for one in batches] for _ in range(ROUNDS)]
+    """Of each batch the medians of some rounds, in which all take turns: seconds of load and of sum; and those of unpacking."""
+    rounds = [[(mean_of_loads(program, scratch, one), launch_well("sha1sum", one.batch).seconds) for one in batches]
+              for _ in range(ROUNDS)]
     for one, turns in zip(batches, zip(*rounds)):
-        took = min(loaded[0] for loaded, _ in turns)
-        summed = min(seconds for _, seconds in turns)
+        took = statistics.median(loaded[0] for loaded, _ in turns)
+        summed = statistics.median(seconds for _, seconds in turns)
         unpacked = time_unpack(scratch, one.pack)
         print("%-10s %9d bytes: swharc %7.3f s, peak %d bytes; sha1sum %7.3f s (%.2f of its rate), unpack-objects %7.3f s"
               % (one.name, os.path.getsize(one.batch), took, min(loaded[1] for loaded, _ in turns), summed, summed / took,

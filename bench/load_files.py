@@ -6,15 +6,17 @@
 All files stand in one folder. Loading is n log n: the larger stream may take at most twelve times as long as the smaller
 one, and at most a sixtieth of the time of `git fast-import`, which loads the same streams in the same run. Ten loads of the
 smaller stream are timed in a row, so that both times are about as long, and what else the machine does in them weighs alike;
-rounds of both go in turn, and the shortest of each counts. The program is the built one, outside the gate.
+rounds of both go in turn, and the median of each counts. Times are the processor's. The program is the built one, outside the
+gate.
 """
 import os
 import shutil
+import statistics
 import subprocess
 import sys
 import tempfile
-import time
 
+from launched import launch_well
 from program import find_program
 from verdict import Verdict
 
@@ -40,12 +42,6 @@ def stream_of(count):
     return b"".join(parts)
 
 
-def seconds(command, **options):
-    begun = time.monotonic()
-    done = subprocess.run(command, check=True, stdout=subprocess.PIPE, **options)
-    return time.monotonic() - begun, done.stdout
-
-
 def time_load(program, folder, stream):
     archive = os.path.join(folder, "archive")
     shutil.rmtree(archive, ignore_errors=True)
@@ -53,19 +49,17 @@ def time_load(program, folder, stream):
     with open(jobs, "w") as file:
         file.write("fast\thttps://e.org/p\t%s\n" % stream)
     subprocess.run([program, "init", archive], check=True, stdout=subprocess.DEVNULL)
-    took, line = seconds([program, "load", archive, jobs])
-    if b"\tfull\t" not in line:
-        sys.exit("not full: %r" % line)
-    return took
+    ran = launch_well(program, "load", archive, jobs)
+    if b"\tfull\t" not in ran.said:
+        sys.exit("not full: %r" % ran.said)
+    return ran.seconds
 
 
 def time_import(folder, stream):
     bare = os.path.join(folder, "bare.git")
     shutil.rmtree(bare, ignore_errors=True)
     subprocess.run(["git", "init", "--quiet", "--bare", bare], check=True)
-    with open(stream, "rb") as given:
-        took, _ = seconds(["git", "-C", bare, "fast-import", "--quiet"], stdin=given)
-    return took
+    return launch_well("git", "-C", bare, "fast-import", "--quiet", given=stream).seconds
 
 
 def mean_of_loads(program, folder, stream, count):
@@ -82,7 +76,7 @@ def main():
             with open(stream, "wb") as file:
                 file.write(stream_of(count))
         rounds = [[mean_of_loads(program, folder, streams[count], count) for count in SIZES] for _ in range(ROUNDS)]
-        best = dict(zip(SIZES, map(min, zip(*rounds))))
+        best = dict(zip(SIZES, map(statistics.median, zip(*rounds))))
         for count, stream in streams.items():
             git = time_import(folder, stream)
             print("%7d files: swharc %7.3f s (%8.0f files/s), git fast-import %7.3f s (%8.0f files/s)"

@@ -1,5 +1,6 @@
 #!/usr/bin/env python3
-"""Times the load of folders beside `git add -A` and `git write-tree` of the same folder in a new repository, in one run.
+"""Times the load of folders beside `git add -A` and `git write-tree` of the same folder in a new repository, in one run, by the
+processor's time and medians of rounds in turn.
 
     python3 bench/load_folder.py [PROGRAM]
 
@@ -11,12 +12,12 @@ outside the gate.
 import json
 import os
 import shutil
+import statistics
 import subprocess
 import sys
 import tempfile
-import time
 
-from launched import launch
+from launched import launch, launch_well, rounds_of
 from program import find_program
 from verdict import Verdict
 
@@ -41,12 +42,12 @@ def load(program, scratch, folder):
     subprocess.run([program, "init", archive], check=True, stdout=subprocess.DEVNULL)
     with open(jobs, "w") as file:
         file.write("dir\thttps://e.org/p\t%s\n" % folder)
-    took, peak, _, said = launch(program, "load", archive, jobs)
-    if b"\tfull\t" not in said:
-        sys.exit("not full: %r" % said[:200])
-    snapshot = said.strip().rpartition(b":")[2].decode()
+    ran = launch(program, "load", archive, jobs)
+    if b"\tfull\t" not in ran.said:
+        sys.exit("not full: %r" % ran.said[:200])
+    snapshot = ran.said.strip().rpartition(b":")[2].decode()
     asked = subprocess.run([program, "ask", archive, "/api/1/snapshot/%s/" % snapshot], check=True, stdout=subprocess.PIPE)
-    return took, peak, json.loads(asked.stdout.split(b"\n", 1)[1])["branches"]["HEAD"]["target"]
+    return ran.seconds, ran.peak, json.loads(asked.stdout.split(b"\n", 1)[1])["branches"]["HEAD"]["target"]
 
 
 def add(scratch, folder):
@@ -55,10 +56,8 @@ def add(scratch, folder):
     shutil.rmtree(bare, ignore_errors=True)
     subprocess.run(["git", "init", "--quiet", "--bare", bare], check=True)
     git = ["git", "--git-dir", bare, "--work-tree", folder]
-    begun = time.monotonic()
-    subprocess.run([*git, "add", "-A"], check=True)
-    tree = subprocess.run([*git, "write-tree"], check=True, stdout=subprocess.PIPE).stdout
-    return time.monotonic() - begun, tree.strip().decode()
+    added, written = launch_well(*git, "add", "-A"), launch_well(*git, "write-tree")
+    return added.seconds + written.seconds, written.said.strip().decode()
 
 
 def main():
@@ -69,9 +68,8 @@ def main():
         for files, folders in SIZES:
             folder = os.path.join(scratch, "folder%d" % files)
             make_folder(folder, files, folders)
-            loads = [load(program, scratch, folder) for _ in range(ROUNDS)]
-            adds = [add(scratch, folder) for _ in range(ROUNDS)]
-            best[files] = min(one[0] for one in loads), min(one[0] for one in adds)
+            loads, adds = rounds_of(ROUNDS, lambda: load(program, scratch, folder), lambda: add(scratch, folder))
+            best[files] = statistics.median(one[0] for one in loads), statistics.median(one[0] for one in adds)
             print("%7d files in %5d folders: swharc %7.3f s, peak %d bytes; git add and write-tree %7.3f s"
                   % (files, folders, best[files][0], min(one[1] for one in loads), best[files][1]))
             trees = {one[-1] for one in loads + adds}

@@ -1,5 +1,5 @@
 #!/usr/bin/env python3
-"""Times the load of whole histories beside `git fast-import` and `sha1sum` of the same stream, in one run.
+"""Times the load of whole histories beside `git fast-import` and `sha1sum` of the same stream, by the processor's time, in one run.
 
     python3 bench/load_history.py [PROGRAM]
 
@@ -17,11 +17,12 @@ program is the built one, outside the gate.
 import os
 import random
 import shutil
+import statistics
 import subprocess
 import sys
 import tempfile
-import time
 
+from launched import launch, launch_well, median_seconds, rounds_of
 from program import find_program
 from verdict import Verdict
 
@@ -153,57 +154,34 @@ def make_stream(folder, name, commits):
     return stream, sum(map(int, sizes)), len(sizes), children_of(bare)
 
 
-# A process takes over the peak of the one that starts it, so that one is small.
-LAUNCHER = """
-import resource, subprocess, sys, time
-begun = time.monotonic()
-said = subprocess.run(sys.argv[1:], stdout=subprocess.PIPE, stderr=subprocess.STDOUT).stdout
-print(time.monotonic() - begun, resource.getrusage(resource.RUSAGE_CHILDREN).ru_maxrss)
-sys.stdout.flush()
-sys.stdout.buffer.write(said)
-"""
-
-
 def load(program, folder, stream):
-    """The seconds that a load into a new archive took, and the most bytes that it held."""
+    """A load into a new archive."""
     archive = os.path.join(folder, "archive")
     shutil.rmtree(archive, ignore_errors=True)
     subprocess.run([program, "init", archive], check=True, stdout=subprocess.DEVNULL)
     jobs = os.path.join(folder, "jobs")
     with open(jobs, "w") as file:
         file.write("fast\thttps://e.org/p\t%s\trefs/heads/main\n" % stream)
-    command = [sys.executable, "-S", "-c", LAUNCHER, program, "load", archive, jobs]
-    first, line = subprocess.run(command, check=True, stdout=subprocess.PIPE).stdout.split(b"\n", 1)
-    if b"\tfull\t" not in line:
-        sys.exit("%s is not full: %r" % (stream, line[:200]))
-    took, kilobytes = first.split()
-    return float(took), int(kilobytes) * 1024
+    ran = launch(program, "load", archive, jobs)
+    if b"\tfull\t" not in ran.said:
+        sys.exit("%s is not full: %r" % (stream, ran.said[:200]))
+    return ran
 
 
-def time_import(folder, stream):
+def import_stream(folder, stream):
     bare = os.path.join(folder, "new.git")
     shutil.rmtree(bare, ignore_errors=True)
     repository(bare)
-    begun = time.monotonic()
-    with open(stream, "rb") as given:
-        subprocess.run(["git", "-C", bare, "fast-import", "--quiet"], check=True, stdin=given)
-    return time.monotonic() - begun
-
-
-def time_sum(stream):
-    begun = time.monotonic()
-    subprocess.run(["sha1sum", stream], check=True, stdout=subprocess.DEVNULL)
-    return time.monotonic() - begun
+    return launch_well("git", "-C", bare, "fast-import", "--quiet", given=stream)
 
 
 def measure(program, folder, name, commits, empty):
-    """The best of some rounds, in turn: seconds of load, import and sum; and the peak of memory and its bound, in MB."""
+    """Medians of some rounds, in turn: seconds of load, import and sum; and the peak of memory and its bound, in MB."""
     stream, bodies, objects, children = make_stream(folder, name, commits)
-    rounds = [(load(program, folder, stream), time_import(folder, stream), time_sum(stream)) for _ in range(ROUNDS)]
-    took = min(round[0][0] for round in rounds)
-    imported = min(round[1] for round in rounds)
-    summed = min(round[2] for round in rounds)
-    peak = min(round[0][1] for round in rounds) - empty
+    loads, imports, sums = rounds_of(ROUNDS, lambda: load(program, folder, stream), lambda: import_stream(folder, stream),
+                                     lambda: launch_well("sha1sum", stream))
+    took, imported, summed = map(median_seconds, (loads, imports, sums))
+    peak = statistics.median(one.peak for one in loads) - empty
     without = TIMES_BODIES * bodies + BYTES_AN_OBJECT * objects + WINDOW
     most = without + TIMES_BODIES * BYTES_A_CHILD * children
     print("%-8s %9d bytes: swharc %7.3f s, git fast-import %7.3f s (%.2f times), sha1sum %7.3f s (%.2f of its rate); "
@@ -218,7 +196,7 @@ def main():
     with tempfile.TemporaryDirectory() as folder:
         nothing = os.path.join(folder, "nothing")
         open(nothing, "w").close()
-        _, empty = load(program, folder, nothing)
+        empty = load(program, folder, nothing).peak
         large = measure(program, folder, "large", large_commits(), empty)
         blob = measure(program, folder, "blob", blob_commits(), empty)
         shorter, longer = (measure(program, folder, "history%d" % count, history_commits(count), empty) for count in COMMITS)

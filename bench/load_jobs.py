@@ -3,16 +3,16 @@
 
     python3 bench/load_jobs.py [PROGRAM]
 
-Loading is linear in the jobs: eight times as many may take at most twelve times as long. The shortest of several times
-counts. The program is the built one, outside the gate.
+Loading is linear in the jobs: eight times as many may take at most twelve times as long, by medians of the processor's times of
+rounds in turn. The program is the built one, outside the gate.
 """
 import os
 import shutil
 import subprocess
 import sys
 import tempfile
-import time
 
+from launched import launch_well, median_seconds, rounds_of
 from program import find_program
 from verdict import Verdict
 
@@ -40,29 +40,25 @@ def write_jobs(folder, count):
     return path
 
 
-def time_load(program, folder, jobs, count):
+def load(program, folder, jobs, count):
     archive = os.path.join(folder, "archive")
     shutil.rmtree(archive, ignore_errors=True)
     subprocess.run([program, "init", archive], check=True, stdout=subprocess.DEVNULL)
-    begun = time.monotonic()
-    lines = subprocess.run([program, "load", archive, jobs], check=True, stdout=subprocess.PIPE).stdout
-    took = time.monotonic() - begun
-    if lines.count(b"\t1\tfull\t") != count:
-        sys.exit("not all full: %r" % lines[:400])
-    return took
+    ran = launch_well(program, "load", archive, jobs)
+    if ran.said.count(b"\t1\tfull\t") != count:
+        sys.exit("not all full: %r" % ran.said[:400])
+    return ran
 
 
 def main():
     program = find_program()
-    shortest = []
     with tempfile.TemporaryDirectory() as folder:
-        for count in SIZES:
-            jobs = write_jobs(folder, count)
-            took = min(time_load(program, folder, jobs, count) for _ in range(ROUNDS))
-            print("%d jobs: %.3f s, %.2f ms a job" % (count, took, 1000 * took / count))
-            shortest.append(took)
+        runs = [lambda count=count, jobs=write_jobs(folder, count): load(program, folder, jobs, count) for count in SIZES]
+        took = list(map(median_seconds, rounds_of(ROUNDS, *runs)))
+    for count, seconds in zip(SIZES, took):
+        print("%d jobs: %.3f s, %.2f ms a job" % (count, seconds, 1000 * seconds / count))
     verdict = Verdict()
-    verdict.at_most("eight times the jobs, times as long", shortest[1] / shortest[0], MOST_TIMES)
+    verdict.at_most("eight times the jobs, times as long", took[1] / took[0], MOST_TIMES)
     verdict.end()
 
 

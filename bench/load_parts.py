@@ -39,13 +39,13 @@ def write_stream(path, blobs):
 
 
 def load(program, archive, jobs, origin, stream):
-    """The seconds that a load took, and the most bytes that it held."""
+    """A load of a stream as one of its origin's visits."""
     with open(jobs, "w") as file:
         file.write("fast\t%s\t%s\trefs/heads/main\n" % (origin, stream))
-    took, peak, status, said = launch(program, "load", archive, jobs)
-    if status or b"\tfull\t" not in said:
-        sys.exit("not full: %r" % said[:200])
-    return took, peak
+    ran = launch(program, "load", archive, jobs)
+    if ran.status or b"\tfull\t" not in ran.said:
+        sys.exit("not full: %r" % ran.said[:200])
+    return ran
 
 
 def measure(program, scratch, blobs, verdict):
@@ -58,10 +58,10 @@ def measure(program, scratch, blobs, verdict):
     if status:
         sys.exit("the archive does not answer: %r" % said[:200])
     print("%d MB: loaded in %.2f s with a peak of %d MB, again in %.2f s with %d MB; the archive holds %d MB" % (
-        blobs * BLOB // MEGABYTE, first[0], first[1] // MEGABYTE, again[0], again[1] // MEGABYTE, held // MEGABYTE))
-    for what, (_, peak) in (("load", first), ("second load", again)):
+        blobs * BLOB // MEGABYTE, first.seconds, first.peak // MEGABYTE, again.seconds, again.peak // MEGABYTE, held // MEGABYTE))
+    for what, ran in (("load", first), ("second load", again)):
         verdict.at_most("a %s of %d MB, MB beside the archive" % (what, blobs * BLOB // MEGABYTE),
-                        (peak - held) / MEGABYTE, MOST)
+                        (ran.peak - held) / MEGABYTE, MOST)
     os.remove(stream)
 
 

@@ -5,13 +5,13 @@
 
 Three streams are loaded, each of one blob and one commit: one that sets 200,000 paths once, in 10,000 folders of 20 files;
 one that sets 2,000 paths a hundred times each; and one that sets a path and deletes its uppermost folder in turn. Each
-may take a second. Above the peak of a load of an empty stream, each may hold 64 MB. Beside it stands the time of `git
-fast-import` of the same stream, in the same run. The program is the built one, outside the gate.
+may take a second of the processor. Above the peak of a load of an empty stream, each may hold 64 MB. Beside it stands the time
+of `git fast-import` of the same stream, in the same run. The program is the built one, outside the gate.
 """
 import os
 import tempfile
 
-from load_history import load, time_import
+from load_history import import_stream, load
 from program import find_program
 from verdict import Verdict
 
@@ -53,14 +53,14 @@ def main():
     with tempfile.TemporaryDirectory() as folder:
         stream = os.path.join(folder, "stream")
         open(stream, "wb").close()
-        _, empty = load(program, folder, stream)
+        empty = load(program, folder, stream).peak
         for name, change in shapes():
             with open(stream, "wb") as out:
                 out.write(HEAD + b"".join(map(change, range(CHANGES))) + b"\n")
-            took, peak = load(program, folder, stream)
-            print("%s: swharc %.2f s, git fast-import %.2f s" % (name, took, time_import(folder, stream)))
-            verdict.at_most("%s: seconds of 200,000 changes" % name, took, MOST_SECONDS)
-            verdict.at_most("%s: peak of 200,000 changes, MB" % name, (peak - empty) / 2**20, MOST_BYTES >> 20)
+            ran = load(program, folder, stream)
+            print("%s: swharc %.2f s, git fast-import %.2f s" % (name, ran.seconds, import_stream(folder, stream).seconds))
+            verdict.at_most("%s: seconds of 200,000 changes" % name, ran.seconds, MOST_SECONDS)
+            verdict.at_most("%s: peak of 200,000 changes, MB" % name, (ran.peak - empty) / 2**20, MOST_BYTES >> 20)
     verdict.end()
 
 

@@ -5,39 +5,32 @@
 
 Three archives without visits are written as files: of 100,000 and of 1,000,000 contents of 20 bytes, and of 1 GB in 16,000
 contents; and one with a full visit, which reaches 1,000,000 contents in 1,000 folders. Each is opened by an `ask` for an
-origin that is not there, and summed; its objects are imported into a new repository, which is checked. An opening may take
-at most a quarter of the time of the check, and that of the million at most 12 times that of the hundred thousand. Each time
-is the best of three. Above the peak of an opening of nothing, an opening may hold 1.3 times the bodies, 400 bytes an
-object, and one run. The program is the built one, outside the gate.
+origin that is not there, and summed; its objects are imported into a new repository, which is checked. An opening of small
+bodies may take at most half the time of the check, that of the large ones at most 1.6 times that of `sha1sum`, and that of the
+million at most 12 times that of the hundred thousand. Each time is the processor's, and the median of rounds in turn. Above the
+peak of an opening of nothing, an opening may hold 1.3 times the bodies, 400 bytes an object, and one run. The program is the
+built one, outside the gate.
 """
 import os
 import subprocess
 import sys
 import tempfile
-import time
 import typing
 
 import check_archive
+from launched import launch, launch_well, median_seconds, rounds_of
 from open_memory import MOST_BYTES, batch_size, content, peak_of_asking, write_archive
 from program import find_program
 from verdict import Verdict
 
-SHAPES = ((100_000, 20), (1_000_000, 20), (16_000, 65_536))
 ROUNDS = 3
-MOST_OF_CHECK = 0.25
+MOST_OF_CHECK = 0.5
+MOST_OF_SUM = 1.6
+LARGE_BODY = 65_536
+SHAPES = ((100_000, 20), (1_000_000, 20), (16_000, LARGE_BODY))
 MOST_OF_TEN = 12
 TIMES_BODIES = 1.3
 BYTES_AN_OBJECT = 400
-
-
-def time_of(command):
-    """The least time of a few runs, in seconds."""
-    times = []
-    for _ in range(ROUNDS):
-        start = time.monotonic()
-        subprocess.run(command, check=False, stdout=subprocess.DEVNULL, stderr=subprocess.DEVNULL)
-        times.append(time.monotonic() - start)
-    return min(times)
 
 
 def repository_of(folder, count, size):
@@ -85,13 +78,17 @@ def visited_case(folder):
 
 def measure(verdict, program, case, empty):
     """Judges the opening of a case, and answers its seconds."""
-    opening = time_of([program, "ask", case.archive, "/api/1/origin/https%3A%2F%2Fe.org%2Fnone/visits/"])
-    sums = time_of(["sha1sum", *(os.path.join(case.archive, name) for name in "01")])
-    check = time_of(["git", "-C", case.repository, "fsck", "--full", "--no-progress", "--no-dangling"])
+    opening, sums, check = map(median_seconds, rounds_of(
+        ROUNDS, lambda: launch(program, "ask", case.archive, "/api/1/origin/https%3A%2F%2Fe.org%2Fnone/visits/"),
+        lambda: launch_well("sha1sum", *(os.path.join(case.archive, name) for name in "01")),
+        lambda: launch("git", "-C", case.repository, "fsck", "--full", "--no-progress", "--no-dangling")))
     peak = peak_of_asking(program, case.archive) - empty
     most = TIMES_BODIES * case.bodies + BYTES_AN_OBJECT * case.objects + case.run
     print("%s: opened in %.2f s; fsck %.2f s; sha1sum %.2f s" % (case.what, opening, check, sums))
-    verdict.at_most("opening %s, times of git fsck" % case.what, opening / check, MOST_OF_CHECK)
+    if case.bodies >= LARGE_BODY * case.objects:
+        verdict.at_most("opening %s, times of sha1sum" % case.what, opening / sums, MOST_OF_SUM)
+    else:
+        verdict.at_most("opening %s, times of git fsck" % case.what, opening / check, MOST_OF_CHECK)
     verdict.at_most("its peak, MB", peak / 2**20, most / 2**20)
     return opening
 

@@ -6,15 +6,16 @@
 Two archives are written as files: one of four contents of 64 MiB, and one of 300,000 contents of 20 bytes. Each is
 opened by an `ask` for an origin that is not there. Above the peak of an `ask` on an archive of no event, an opening may
 take 1.3 times the bytes of all bodies and 400 bytes an object. Then the store of a small archive is made a terabyte
-long by a hole after its last run, and is opened all the same, with less than 16 MiB. The program is the built one, outside the gate.
+long by a hole after its last run, and is opened all the same, with less than 16 MiB. The program is the built one, outside
+the gate.
 """
 import hashlib
 import os
 import struct
-import subprocess
 import sys
 import tempfile
 
+from launched import launch
 from program import find_program
 from verdict import Verdict
 
@@ -63,24 +64,12 @@ def write_archive(folder, count, size):
     return folder
 
 
-# A process takes over the peak of the one that starts it, so that one is small.
-LAUNCHER = """
-import resource, subprocess, sys
-said = subprocess.run(sys.argv[1:], stdout=subprocess.PIPE, stderr=subprocess.STDOUT).stdout
-print(resource.getrusage(resource.RUSAGE_CHILDREN).ru_maxrss)
-sys.stdout.flush()
-sys.stdout.buffer.write(said)
-"""
-
-
 def peak_of_asking(program, archive):
     """The most bytes that the process held at once."""
-    command = [program, "ask", archive, "/api/1/origin/https%3A%2F%2Fe.org%2Fnone/visits/"]
-    launched = subprocess.run([sys.executable, "-S", "-c", LAUNCHER] + command, check=True, stdout=subprocess.PIPE)
-    kilobytes, said = launched.stdout.split(b"\n", 1)
-    if not said.startswith(NOT_FOUND):
-        sys.exit("%s is not opened: %r" % (archive, said[:200]))
-    return int(kilobytes) * 1024
+    ran = launch(program, "ask", archive, "/api/1/origin/https%3A%2F%2Fe.org%2Fnone/visits/")
+    if not ran.said.startswith(NOT_FOUND):
+        sys.exit("%s is not opened: %r" % (archive, ran.said[:200]))
+    return ran.peak
 
 
 def main():

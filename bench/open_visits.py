@@ -4,18 +4,16 @@
     python3 bench/open_visits.py [PROGRAM]
 
 What is closed once is not walked again: the opening with 256 visits may take at most 1.3 times as long as that with
-one, by the medians of runs in turn. Each opening is an `ask` for an origin that is not there. The program is the built
-one, outside the gate.
+one, by the medians of the processor's times of runs in turn. Each opening is an `ask` for an origin that is not there. The
+program is the built one, outside the gate.
 """
 import hashlib
 import os
-import statistics
 import struct
-import subprocess
 import sys
 import tempfile
-import time
 
+from launched import launch, median_seconds, rounds_of
 from program import find_program
 from verdict import Verdict
 
@@ -67,37 +65,31 @@ def write_archive(folder, objects, visits):
 
 
 def ask(program, archive, origin):
-    command = [program, "ask", archive, "/api/1/origin/%s/visits/" % origin]
-    begun = time.monotonic()
-    done = subprocess.run(command, stdout=subprocess.PIPE)
-    return time.monotonic() - begun, done
+    return launch(program, "ask", archive, "/api/1/origin/%s/visits/" % origin)
 
 
-def time_ask(program, archive):
-    took, done = ask(program, archive, "https://none.example")
-    if done.returncode != 1 or not done.stdout.startswith(b"404 21\n"):
-        sys.exit("not opened: %r" % done.stdout)
-    return took
+def open_archive(program, archive):
+    ran = ask(program, archive, "https://none.example")
+    if ran.status != 1 or not ran.said.startswith(b"404 21\n"):
+        sys.exit("not opened: %r" % ran.said)
+    return ran
 
 
 def main():
     program = find_program()
     objects = objects_of(FILES)
-    took = {visits: [] for visits in VISITS}
     with tempfile.TemporaryDirectory() as folder:
         for visits in VISITS:
             write_archive(os.path.join(folder, str(visits)), objects, visits)
-            _, done = ask(program, os.path.join(folder, str(visits)), ORIGIN.decode())
-            if done.stdout.count(b'"full"') != visits:
-                sys.exit("not %d full visits: %r" % (visits, done.stdout[:200]))
-        for _ in range(ROUNDS):
-            for visits in VISITS:
-                took[visits].append(time_ask(program, os.path.join(folder, str(visits))))
-    middle = {visits: statistics.median(took[visits]) for visits in VISITS}
-    for visits in VISITS:
-        print("%4d visits: %7.3f s" % (visits, middle[visits]))
+            said = ask(program, os.path.join(folder, str(visits)), ORIGIN.decode()).said
+            if said.count(b'"full"') != visits:
+                sys.exit("not %d full visits: %r" % (visits, said[:200]))
+        runs = [lambda visits=visits: open_archive(program, os.path.join(folder, str(visits))) for visits in VISITS]
+        took = list(map(median_seconds, rounds_of(ROUNDS, *runs)))
+    for visits, seconds in zip(VISITS, took):
+        print("%4d visits: %7.3f s" % (visits, seconds))
     verdict = Verdict()
-    verdict.at_most("opening with 256 visits, times that with one", middle[VISITS[1]] / middle[VISITS[0]], MOST_TIMES)
+    verdict.at_most("opening with 256 visits, times that with one", took[1] / took[0], MOST_TIMES)
     verdict.end()
 
 

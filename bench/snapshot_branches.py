@@ -5,16 +5,15 @@
 
 An archive is written whose one batch holds the snapshot, and the program is asked for an origin that it does not know,
 for which it opens the archive and reads each object anew. The larger snapshot may take at most fifteen times as long
-as the smaller one. The program is the built one, outside the gate.
+as the smaller one, by medians of the processor's times. The program is the built one, outside the gate.
 """
 import hashlib
 import os
 import struct
-import subprocess
 import sys
 import tempfile
-import time
 
+from launched import launch, median_seconds, rounds_of
 from program import find_program
 from verdict import Verdict
 
@@ -40,27 +39,26 @@ def write_archive(folder, body):
         store.write(run)
 
 
-def time_ask(program, folder):
-    command = [program, "ask", folder, "/api/1/origin/https://none.example/visits/"]
-    begun = time.monotonic()
-    done = subprocess.run(command, stdout=subprocess.PIPE)
-    took = time.monotonic() - begun
-    if done.returncode != 1 or not done.stdout.startswith(b"404 21\n"):
-        sys.exit("not opened: %r" % done.stdout)
-    return took
+def ask(program, folder):
+    ran = launch(program, "ask", folder, "/api/1/origin/https://none.example/visits/")
+    if ran.status != 1 or not ran.said.startswith(b"404 21\n"):
+        sys.exit("not opened: %r" % ran.said)
+    return ran
 
 
 def main():
     program = find_program()
-    best = {}
     with tempfile.TemporaryDirectory() as folder:
+        runs = []
         for count in SIZES:
             archive = os.path.join(folder, "archive%d" % count)
             write_archive(archive, snapshot_of(count))
-            best[count] = min(time_ask(program, archive) for _ in range(ROUNDS))
-            print("%7d branches: %7.3f s" % (count, best[count]))
+            runs.append(lambda archive=archive: ask(program, archive))
+        took = list(map(median_seconds, rounds_of(ROUNDS, *runs)))
+    for count, seconds in zip(SIZES, took):
+        print("%7d branches: %7.3f s" % (count, seconds))
     verdict = Verdict()
-    verdict.at_most("ten times the branches of a snapshot, times as long", best[SIZES[1]] / best[SIZES[0]], MOST_TIMES)
+    verdict.at_most("ten times the branches of a snapshot, times as long", took[1] / took[0], MOST_TIMES)
     verdict.end()
 
 
