@@ -14,13 +14,13 @@ use swh_outside::What;
 
 /// What is laid at a path: a folder with its list, or a file with its bytes.
 #[derive(Clone, Copy)]
-enum Laid {
+pub enum Laid {
     List(&'static [Named]),
     Bytes(&'static [u8]),
 }
 
 /// Paths, and what is laid there.
-type Layout = &'static [(&'static str, Laid)];
+pub type Layout = &'static [(&'static str, Laid)];
 
 /// A text, and the numbers of the calls of its source that fail.
 type Listing = (&'static [u8], &'static [u64]);
@@ -42,7 +42,11 @@ enum Loading {
 
 use Loading::*;
 
-fn folder_laid(alloc: Global, layout: Layout, failing: &[u64]) -> Result<MemoryFolder, AllocError> {
+pub fn folder_laid(
+    alloc: Global,
+    layout: Layout,
+    failing: &[u64],
+) -> Result<MemoryFolder, AllocError> {
     let mut places = Vec::new(alloc);
     for (path, laid) in layout {
         match *laid {
@@ -67,7 +71,7 @@ fn listing_of(
     Ok(MemorySource::new(String::new(alloc), bytes, piece, failing))
 }
 
-fn is_named(id: &[u8; 20], kind: Kind, hex: &[u8; 40]) -> bool {
+pub fn is_named(id: &[u8; 20], kind: Kind, hex: &[u8; 40]) -> bool {
     match Name::from_hex(kind, hex) {
         Some(name) => name.id == *id,
         None => false,
@@ -144,9 +148,9 @@ const HI: Id = (Kind::Content, b"45b983be36b73c0788dc9cbcb76cbb80fc7bb057");
 
 const RUN: Id = (Kind::Content, b"e5224d533ef27b001224859a9b36696846a7e7fe");
 
-const EMPTY: Layout = &[("", List(&[]))];
+pub const EMPTY: Layout = &[("", List(&[]))];
 
-const TWO: Layout = &[
+pub const TWO: Layout = &[
     ("", List(&[("run", File), ("ln", File)])),
     ("run", Bytes(b"hi\n")),
     ("ln", Bytes(b"run")),
@@ -162,7 +166,7 @@ const THREE: Layout = &[
 ];
 
 /// The same, and what is neither file nor folder.
-const NEITHER: Layout = &[
+pub const NEITHER: Layout = &[
     (
         "",
         List(&[
@@ -185,7 +189,7 @@ const NEITHER_BELOW: Layout = &[
 ];
 
 /// A file that is listed and is not there.
-const LACKING: Layout = &[
+pub const LACKING: Layout = &[
     ("", List(&[("run", File), ("ln", File)])),
     ("run", Bytes(b"hi\n")),
 ];
@@ -350,6 +354,8 @@ const ROWS: &[Row] = &[
     (THREE, &[3], (b"x\n", &[]), Fails(1, 0)),
     (THREE, &[4], (b"x\n", &[]), Fails(1, 0)),
     (THREE, &[5], (b"x\n", &[]), IsBad(1)),
+    // Behind a line that may not come nothing more is read: the source's next call would fail.
+    (TWO, &[], (b"x\n100755 run\n120000 ln\n", &[1]), IsBad(1)),
     // Lines that may not come, and each call of the source, two for its bytes and one for its end, and the one after them.
     (
         TWO,
