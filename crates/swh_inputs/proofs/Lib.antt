@@ -1,3 +1,4 @@
+pub mod Batchings
 pub mod Founds
 pub mod Gives
 pub mod OneInput

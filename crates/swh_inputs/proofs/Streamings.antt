@@ -1,5 +1,5 @@
 -- What a stream gave that is read part by part.
-use Rattle.std.proofs.Common.{◌≡◌, ◌⊎◌, ℕ, ◌≤◌, inl, inr, List, [], ◌++◌, Option, Some, None, Result, Ok, Contains, arith, sym, ap, ◌∙◌, subst}
+use Rattle.std.proofs.Common.{◌≡◌, ◌⊎◌, ℕ, ◌≤◌, inl, inr, List, [], ◌∷◌, ◌++◌, Option, Some, None, Result, Ok, Contains, arith, sym, ap, ◌∙◌, subst}
 use Rattle.std.specs.Prelude.{IfOk}
 use Rattle.std.specs.Global.{Vec}
 use Rattle.std.specs.List.{AllByRecursion}
@@ -10,7 +10,9 @@ use Rattle.swh_base.specs.declared.visit.VisitKind.TheVariants.{Fast}
 use Rattle.swh_outside.specs.Faults.{Rose}
 use Rattle.swh_model.specs.Meaning.{Made, StreamMeaning}
 use Rattle.swh_object.specs.Object.{IsObject}
-use Rattle.swh_made.specs.Making.{made}
+use Rattle.std.proofs.lemmas.List.{map-append}
+use Rattle.std.proofs.lemmas.List.Elements.{Contains-append_left}
+use Rattle.swh_made.specs.Making.{made, made_from}
 use Rattle.swh_made.proofs.Wholes.{new_whole}
 use Rattle.swh_fastload.specs.Giving.{BreaksOff, EndsStream, GoesOn, StreamState, meaning_of}
 use Rattle.swh_fastload.specs.declared.bad.BadStream.TheVariants as stream
@@ -18,6 +20,8 @@ use Rattle.swh_fastload.specs.declared.bad.InputFault.{InputFault as StreamFault
 use Rattle.swh_fastload.specs.declared.bad.InputFault.TheVariants as of_stream
 use Rattle.swh_fastload.specs.Input.{Means}
 use Rattle.swh_fastload.proofs.Givings.{come_first, given_meant, gives_first, gives_meant}
+use Rattle.swh_batchread.specs.Giving.{GivesFirst}
+use Rattle.swh_batchread.proofs.Givings.{first_among}
 use Rattle.swh_walk.specs.declared.parts.Next.{Next}
 use Rattle.swh_walk.specs.declared.parts.Next.TheVariants as next
 use Rattle.swh_walk.specs.Parts.{GaveSoFar, GaveSome, GaveAll, Broke, MayHaveGiven, IsReadOn, ReachesAll}
@@ -117,12 +121,20 @@ stream_among : (id : Kind → List ℕ → List ℕ) (head : Option (List ℕ)) 
 unfolding MayGiveInput MeansInput
 stream_among id head text objects meaning g h m c = given_meant id head text objects meaning g h m c
 
+batch_among : (id : Kind → List ℕ → List ℕ) (text refs : List ℕ) (objects : List Made) (meaning : StreamMeaning) → GivesFirst id text objects → MeansInput id (BatchText text refs) meaning → (m : Made) → Contains objects m → Contains meaning.objects m
+unfolding MeansInput
+batch_among id text refs objects meaning f h m c =
+    let of_batch = first_among id text objects (made h.objects) f h.of_batch.means m c in
+    let all : made h.all ≡ made h.objects ++ made (h.means.gives.snapshot ∷ []) = ap made h.means.gives.objects_are ∙ map-append made_from h.objects (h.means.gives.snapshot ∷ []) in
+    subst (λ (ms : List Made). Contains ms m) (sym (h.are ∙ all)) (Contains-append_left (made h.objects) (made (h.means.gives.snapshot ∷ [])) m of_batch)
+
 -- What an input gives belongs to what it means.
 pub given_among : (id : Kind → List ℕ → List ℕ) (text : InputText) (objects : List Made) (meaning : StreamMeaning) → MayGiveInput id text objects → MeansInput id text meaning → (m : Made) → Contains objects m → Contains meaning.objects m
 unfolding MayGiveInput
 given_among id (StreamText head text) objects meaning g h m c = stream_among id head text objects meaning g h m c
 given_among id (FolderText tree listing) objects meaning g h m c = meant_among id (FolderText tree listing) objects meaning g h m c
-given_among id (BatchText of_batch refs) objects meaning g h m c = meant_among id (BatchText of_batch refs) objects meaning g h m c
+given_among id (BatchText of_batch refs) objects meaning (inl f) h m c = batch_among id of_batch refs objects meaning f h m c
+given_among id (BatchText of_batch refs) objects meaning (inr g) h m c = meant_among id (BatchText of_batch refs) objects meaning g h m c
 
 stream_given : (id : Kind → List ℕ → List ℕ) (head : Option (List ℕ)) (text : List ℕ) (meaning : StreamMeaning) → MeansInput id (StreamText head text) meaning → MayGiveInput id (StreamText head text) meaning.objects
 unfolding MayGiveInput MeansInput
@@ -133,4 +145,4 @@ pub meant_given : (id : Kind → List ℕ → List ℕ) (text : InputText) (mean
 unfolding MayGiveInput
 meant_given id (StreamText head text) meaning h = stream_given id head text meaning h
 meant_given id (FolderText tree listing) meaning h = record { meaning = meaning; means = h; among = λ m c. c }
-meant_given id (BatchText of_batch refs) meaning h = record { meaning = meaning; means = h; among = λ m c. c }
+meant_given id (BatchText of_batch refs) meaning h = inr (record { meaning = meaning; means = h; among = λ m c. c })

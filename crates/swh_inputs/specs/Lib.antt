@@ -1,3 +1,4 @@
+pub mod Batching
 pub mod Input
 pub mod Opening
 pub mod Parts

@@ -1,5 +1,5 @@
 -- A stream that is read part by part, as a loader reads it.
-use Rattle.std.specs.Prelude.{◌≡◌, ◌<◌, ℕ, Option, List, ◌++◌, Contains}
+use Rattle.std.specs.Prelude.{◌≡◌, ◌⊎◌, ◌<◌, ℕ, Option, List, ◌++◌, Contains}
 use Rattle.swh_base.specs.declared.kind.Kind.{Kind}
 use Rattle.swh_base.specs.declared.entry.Entry.{Entry}
 use Rattle.swh_base.specs.declared.visit.VisitKind.TheVariants.{Fast}
@@ -7,6 +7,7 @@ use Rattle.swh_outside.specs.Faults.{Rose}
 use Rattle.swh_model.specs.Meaning.{Made, StreamMeaning}
 use Rattle.swh_fastread.specs.declared.reader.Ending.TheVariants.{Open}
 use Rattle.swh_fastload.specs.Giving.{EndsStream, GoesOn, MayGive, StreamState}
+use Rattle.swh_batchread.specs.Giving.{GivesFirst}
 use Rattle.swh_walk.specs.declared.parts.Next.{Next}
 use Rattle.swh_walk.specs.declared.parts.Next.TheVariants as next
 use Rattle.swh_inputs.specs.Input.{InputText, BreaksInput, MayBreakInput, MeansInput}
@@ -21,11 +22,11 @@ pub record AreMeantBy (id : Kind → List ℕ → List ℕ) (text : InputText) (
   pub among : (m : Made) → Contains objects m → Contains meaning.objects m
 
 -- These are objects that the input may have given where its reading stopped: of a stream what whole commands at its front make,
--- and of each input what it means.
+-- of a batch the objects at its front that are good, each kind and body once, and of each input what it means.
 unfoldable pub MayGiveInput : (Kind → List ℕ → List ℕ) → InputText → List Made → Type 0
 MayGiveInput id (StreamText head text) objects = MayGive id head text objects
 MayGiveInput id (FolderText tree listing) objects = AreMeantBy id (FolderText tree listing) objects
-MayGiveInput id (BatchText of_batch refs) objects = AreMeantBy id (BatchText of_batch refs) objects
+MayGiveInput id (BatchText of_batch refs) objects = GivesFirst id of_batch objects ⊎ AreMeantBy id (BatchText of_batch refs) objects
 
 -- The stream may be read on.
 abbrev pub MayGoOn : StreamState → Type 0

@@ -68,21 +68,33 @@ fn told_of_folder<N: Namer>(fault: DirFault) -> Result<Given<N, InputFault>, Mem
     Ok(Given::Bad(fault))
 }
 
+/// The fault of an input for one of its batch or refs.
+pub fn fault_of_batch(fault: BatchFault) -> Result<InputFault, Memory>
+    ensures told { IfOk result (λ told. told_of_batch fault ≡ Some told) }
+    ensures memory { IfErr result (λ _. told_of_batch fault ≡ None) }
+{
+    match fault {
+        BatchFault::BadBatch { at } => Ok(InputFault::Bad(BadText::Batch { at })),
+        BatchFault::WrongName { given, got } => Ok(InputFault::Bad(BadText::Name { given, got })),
+        BatchFault::BadRefs { line } => Ok(InputFault::Bad(BadText::Refs { line })),
+        BatchFault::NoObject { id } => Ok(InputFault::Bad(BadText::NoObject { id })),
+        BatchFault::Limit { which, number } => {
+            Ok(InputFault::Bad(BadText::Limit { which, number }))
+        }
+        BatchFault::ReadFault => Ok(InputFault::ReadFault),
+        BatchFault::Memory => Err(Memory),
+    }
+}
+
 /// What is told of the faults of a batch and its refs.
 fn told_of_batch<N: Namer>(fault: BatchFault) -> Result<Given<N, InputFault>, Memory>
     ensures told { IfOk result (IsTold (told_of_batch fault)) }
     ensures memory { IfErr result (λ _. told_of_batch fault ≡ None) }
 {
-    let fault = match fault {
-        BatchFault::BadBatch { at } => InputFault::Bad(BadText::Batch { at }),
-        BatchFault::WrongName { given, got } => InputFault::Bad(BadText::Name { given, got }),
-        BatchFault::BadRefs { line } => InputFault::Bad(BadText::Refs { line }),
-        BatchFault::NoObject { id } => InputFault::Bad(BadText::NoObject { id }),
-        BatchFault::Limit { which, number } => InputFault::Bad(BadText::Limit { which, number }),
-        BatchFault::ReadFault => InputFault::ReadFault,
-        BatchFault::Memory => return Err(Memory),
-    };
-    Ok(Given::Bad(fault))
+    match fault_of_batch(fault) {
+        Ok(fault) => Ok(Given::Bad(fault)),
+        Err(fault) => Err(fault),
+    }
 }
 
 /// The bytes of a head, where one is named.

@@ -1,3 +1,4 @@
+pub mod Batches
 pub mod Escapes
 pub mod Later
 pub mod Leaves

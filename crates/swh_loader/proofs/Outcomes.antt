@@ -1,14 +1,11 @@
 -- What is said of a load of an input, by what is said of the walk beneath it.
-use Rattle.std.proofs.Common.{◌≡◌, ◌≤◌, inl, inr, ℕ, Option, Some, Result, Ok, Err, List, [], ◌∷◌, ◌++◌, refl, sym, ◌∙◌, subst, le_refl}
+use Rattle.std.proofs.Common.{◌≡◌, inl, inr, ℕ, Some, Result, Ok, Err, List, [], ◌∷◌, ◌++◌, refl, sym, ◌∙◌, subst, le_refl}
 use Rattle.std.specs.Prelude.{IfOk, IfErr}
 use Rattle.std.proofs.lemmas.List.{append-nil, append_cancel_left}
 use Rattle.swh_base.specs.declared.kind.Kind.{Kind}
 use Rattle.swh_base.specs.declared.entry.Entry.{Entry}
 use Rattle.swh_base.specs.Visit.{Statuses}
-use Rattle.swh_base.specs.declared.visit.VisitKind.TheVariants as kind
 use Rattle.swh_outside.specs.Views.{Disks}
-use Rattle.swh_outside.specs.declared.fault.Opened.TheVariants.{Found as Here}
-use Rattle.swh_model.specs.Archive.{Bodies}
 use Rattle.swh_model.specs.declared.event.Event.{Event}
 use Rattle.swh_keeper.specs.Calls.{MakesCallsOf}
 use Rattle.swh_keeper.specs.Kept.{Kept}
@@ -23,16 +20,13 @@ use Rattle.swh_walk.specs.Visiting.{next_visit}
 use Rattle.swh_alone.specs.Loading.{AddsVisit, AreOfVisit, EndsVisit, IsHeldBack, MakesVisitCalls, NoCountFell, Stops}
 use Rattle.swh_alone.proofs.Allowing.{adds_visit, visit_calls, stops_as}
 use Rattle.swh_alone.proofs.Calls.{same_calls}
-use Rattle.swh_inputs.specs.Opening.{kind_of, opening_of}
+use Rattle.swh_inputs.specs.Opening.{opening_of}
 use Rattle.swh_inputs.specs.Parts.{Parts, IsSameInput}
 use Rattle.swh_inputs.specs.Reading.{IsRead}
 use Rattle.swh_inputs.specs.declared.bad.InputFault.{InputFault}
 use Rattle.swh_inputs.specs.declared.input.Input.{Input}
-use Rattle.swh_inputs.specs.declared.input.Input.TheVariants.{Fast}
-use Rattle.swh_loader.specs.declared.end.Loaded.{Loaded as Reported}
 use Rattle.swh_loader.specs.Ending.{IsJobEnd, end_for, held_bodies, outcome_for}
 use Rattle.swh_loader.specs.Leaving.{AreAllowed, IsLoadOf}
-use Rattle.swh_loader.specs.Report.{detail_limit, end_room}
 use Rattle.swh_loader.proofs.Leaves.{allowed, as_it_was, job_end, job_short, same_input, same_statuses}
 
 module _ {S F D : Type 0} (id : Kind → List ℕ → List ℕ) (p : Parts S F) (disks : Disks D) (a : Attempt) where
@@ -46,6 +40,7 @@ module _ {S F D : Type 0} (id : Kind → List ℕ → List ℕ) (p : Parts S F) 
     load_of (Ok loaded) ended end adds calls wounded stops later same = record {
       ended = subst (λ (later : Statuses). EndsVisit a old new loaded.visit later) (same_statuses loaded.end) ended;
       end = ends loaded.end end;
+      short = job_short id p (held_bodies new) i now (end_for loaded.end) (ends loaded.end end);
       adds = adds_visit P (AreAllowed id p i) a more old.history new.history adds;
       calls = λ told. visit_calls P (AreAllowed id p i) a more id disks old new (calls told);
       wounded = wounded;
@@ -56,6 +51,7 @@ module _ {S F D : Type 0} (id : Kind → List ℕ → List ℕ) (p : Parts S F) 
     load_of (Err fault) ended end adds calls wounded stops later same = record {
       ended = tt;
       end = tt;
+      short = tt;
       adds = adds_visit P (AreAllowed id p i) a more old.history new.history adds;
       calls = λ told. visit_calls P (AreAllowed id p i) a more id disks old new (calls told);
       wounded = wounded;
@@ -69,6 +65,7 @@ module _ {S F D : Type 0} (id : Kind → List ℕ → List ℕ) (p : Parts S F) 
   none_begun i k = record {
     ended = tt;
     end = tt;
+    short = tt;
     adds = record { more = []; behind = sym (append-nil k.history); are = tt };
     calls = λ told more behind.
         subst (λ (xs : List Event). MakesCallsOf id disks.file (λ next. AreOfVisit (AreAllowed id p i) a (next_visit k.history a.origin) (xs ++ next ∷ [])) xs k k)
@@ -90,11 +87,3 @@ module _ {S F D N E : Type 0} (id : Kind → List ℕ → List ℕ) (p : Parts S
   once_load result ended end adds calls wounded stops later was =
       load_of id p disks a i now old new (walking.AreAllowed Reads (opening_of i) i) (walking.IsEndAt Reads (opening_of i) (held_bodies new) i now)
       (allowed id p Reads read whole same i) (job_end id p Reads read whole same (held_bodies new) i now) result ended end adds calls wounded stops later (same_input id p Reads read whole same i now was)
-
--- The report of a load has a bound.
-pub outcome_short : {S F : Type 0} (id : Kind → List ℕ → List ℕ) (p : Parts S F) (bodies : Bodies) (i now : Input S F) (outcome : Result Reported LoadFault) → IfOk outcome (λ loaded. IsJobEnd id p bodies i now loaded.end) → IfOk outcome (λ loaded. end_room loaded.end ≤ detail_limit (kind_of i))
-outcome_short id p bodies i now (Ok loaded) end = job_short id p bodies i now loaded.end end
-outcome_short id p bodies i now (Err fault) end = tt
-
-pub stream_short : {S F : Type 0} (id : Kind → List ℕ → List ℕ) (p : Parts S F) (bodies : Bodies) (s back : S) (head : Option (List ℕ)) (outcome : Result Reported LoadFault) → IfOk outcome (λ loaded. IsJobEnd id p bodies (Fast (Here s) head) (Fast (Here back) head) loaded.end) → IfOk outcome (λ loaded. end_room loaded.end ≤ detail_limit kind.Fast)
-stream_short id p bodies s back head outcome end = outcome_short id p bodies (Fast (Here s) head) (Fast (Here back) head) outcome end

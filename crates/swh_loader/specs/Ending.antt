@@ -65,8 +65,8 @@ pub record MayGiveObjects (id : Kind → List ℕ → List ℕ) (text : InputTex
   pub given : MayGiveInput id text (made objects)
   pub good : AllByRecursion (HasItsChildrenAndName id) objects
 
--- The input may give this object before its reading stops: one that it means, or, of a stream, one that whole commands at its front
--- make.
+-- The input may give this object before its reading stops: one that it means, of a stream one that whole commands at its front make,
+-- or of a batch one of the good objects at its front.
 pub record IsGivenBy (id : Kind → List ℕ → List ℕ) (text : InputText) (e : Entry) : Type 0 where
   pub objects : List Entry
   pub may : MayGiveObjects id text objects

@@ -1,5 +1,5 @@
 -- What a load may add, and what it leaves of its job.
-use Rattle.std.specs.Prelude.{◌≡◌, ℕ, Some, Result, List, IfOk, IfErr}
+use Rattle.std.specs.Prelude.{◌≡◌, ◌≤◌, ℕ, Some, Result, List, IfOk, IfErr}
 use Rattle.swh_base.specs.declared.kind.Kind.{Kind}
 use Rattle.swh_base.specs.declared.entry.Entry.{Entry}
 use Rattle.swh_outside.specs.Views.{Disks}
@@ -9,12 +9,13 @@ use Rattle.swh_walk.specs.declared.input.Opening.{Opening}
 use Rattle.swh_walk.specs.declared.input.Opening.TheVariants.{Found, NotFound, Failed, Memory}
 use Rattle.swh_walk.specs.Owning.{Attempt}
 use Rattle.swh_alone.specs.Loading.{AddsVisit, EndsVisit, IsHeldBack, MakesVisitCalls, NoCountFell, Stops}
-use Rattle.swh_inputs.specs.Opening.{opening_of}
+use Rattle.swh_inputs.specs.Opening.{kind_of, opening_of}
 use Rattle.swh_inputs.specs.Parts.{Parts, IsSameInput}
 use Rattle.swh_inputs.specs.declared.input.Input.{Input}
 use Rattle.swh_loader.specs.declared.end.Loaded.{Loaded}
 use Rattle.swh_loader.specs.declared.job.Job.{Job}
 use Rattle.swh_loader.specs.Ending.{AreGivenBy, IsJobEnd, held_bodies, statuses_of}
+use Rattle.swh_loader.specs.Report.{detail_limit, end_room}
 
 module _ {S F : Type 0} (id : Kind → List ℕ → List ℕ) (p : Parts S F) (i : Input S F) where
   -- The batches of a load whose input was found so hold only what it may give before its reading stops; without an input there
@@ -38,6 +39,7 @@ pub record IsSameJob {S F : Type 0} (p : Parts S F) (job now : Job S F) : Type 0
 pub record IsLoadOf {S F D : Type 0} (id : Kind → List ℕ → List ℕ) (p : Parts S F) (disks : Disks D) (a : Attempt) (i now : Input S F) (old new : Kept D) (result : Result Loaded LoadFault) : Type 0 where
   pub ended : IfOk result (λ loaded. EndsVisit a old new loaded.visit (statuses_of loaded.end))
   pub end : IfOk result (λ loaded. IsJobEnd id p (held_bodies new) i now loaded.end)
+  pub short : IfOk result (λ loaded. end_room loaded.end ≤ detail_limit (kind_of i))
   pub adds : AddsVisit (AreAllowed id p i) a old.history new.history
   pub calls : disks.tells → MakesVisitCalls id disks (AreAllowed id p i) a old new
   pub wounded : (n : ℕ) → old.wounded ≡ Some n → IsHeldBack old new result

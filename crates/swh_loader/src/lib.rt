@@ -7,6 +7,7 @@
 //! says how the visit ended.
 #![tactic(auto)]
 
+mod batching;
 mod detail;
 mod end;
 mod job;

@@ -12,6 +12,7 @@ ghost use Rattle.swh_loader.specs.Ending.{IsJobEnd, held_bodies, statuses_of};
 ghost use Rattle.swh_loader.specs.Leaving.{AreAllowed, IsLoadOf, IsSameJob};
 ghost use Rattle.swh_loader.specs.Report.{detail_limit, end_room};
 
+use crate::batching::{BatchJob, load_batch};
 use crate::end::Loaded;
 use crate::job::Job;
 use crate::outcome::outcome_of;
@@ -60,8 +61,8 @@ fn load_at_once<N: Namer, D: Disk, S: Source, F: Folder, G: Gate>(
     outcome_of(load_kept(alloc, keeper, turn, &load, &mut job.input))
 }
 
-/// Loads the input of an origin, as a new visit of it. A stream is read part by part, and what is new of its objects is sent
-/// while it is read; a folder and a batch are read at once.
+/// Loads the input of an origin, as a new visit of it. A stream, and a batch with its refs, are read part by part, and what is
+/// new of their objects is sent while they are read; a folder is read at once.
 pub fn load_one<N: Namer, D: Disk, S: Source, F: Folder, G: Gate>(
     alloc: Global,
     namer: &N,
@@ -117,6 +118,19 @@ pub fn load_one<N: Namer, D: Disk, S: Source, F: Folder, G: Gate>(
             }
             _ => load_at_once(alloc, namer, keeper, turn, job, date),
         },
-        _ => load_at_once(alloc, namer, keeper, turn, job, date),
+        Input::Batch { objects, refs } => match objects {
+            Opened::Found(objects) => match refs {
+                Opened::Found(refs) => {
+                    let batch = BatchJob {
+                        origin: &job.origin,
+                        date,
+                    };
+                    load_batch::<N, D, S, F, G>(alloc, namer, keeper, turn, &batch, objects, refs)
+                }
+                _ => load_at_once(alloc, namer, keeper, turn, job, date),
+            },
+            _ => load_at_once(alloc, namer, keeper, turn, job, date),
+        },
+        Input::Dir { .. } => load_at_once(alloc, namer, keeper, turn, job, date),
     }
 }
