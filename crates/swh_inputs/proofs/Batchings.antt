@@ -24,11 +24,12 @@ use Rattle.swh_walk.specs.Parts.{GaveSoFar, GaveSome, GaveAll, Broke, MayHaveGiv
 use Rattle.swh_walk.proofs.SoFar.{so_far_keeps, some_keeps}
 use Rattle.swh_inputs.specs.Input.{MeansInput}
 use Rattle.swh_inputs.specs.Input.InputText.{BatchText}
-use Rattle.swh_inputs.specs.Batching.{IsNextOfBatch}
+use Rattle.swh_inputs.specs.Batching.{AreQuiet, IsNextFault, IsNextOfBatch}
 use Rattle.swh_inputs.specs.Parts.{IsSameSource}
 use Rattle.swh_inputs.specs.Streaming.{MayGiveInput}
 use Rattle.swh_inputs.specs.Reading.{GivesSo, told_of_batch}
 use Rattle.swh_inputs.specs.declared.bad.InputFault.{InputFault}
+use Rattle.swh_inputs.specs.declared.bad.InputFault.TheVariants.{ReadFault}
 use Rattle.swh_inputs.proofs.Gives.{pair_gives}
 
 some_told : (told : Option InputFault) (t : InputFault) (P : InputFault → Type 0) → told ≡ Some t → IfSome told P → P t
@@ -52,6 +53,12 @@ module _ {S : Type 0} (N : Type 0) (id : Kind → List ℕ → List ℕ) (source
       some_told (told_of_batch fault) told (λ t. GivesSo id Batch sources.tells (Some (BatchText text of_refs)) {N = N} (first ⊎ second) (given.Bad t)) is
       (pair_gives N id sources.tells text of_refs (MayBreakRefs before) (BreaksRefs of_refs before) (sources.faults refs) (sources.faults others) (first ⊎ second) fault (λ may. inr (before, may))
       (λ t breaks. inr (before, record { means = h.all.means t; each = h.all.each }, breaks)) inr h.explains)
+
+-- Why nothing comes any more tells each failure.
+pub off_quiet : {S : Type 0} (id : Kind → List ℕ → List ℕ) (sources : Sources S) (source refs : S) (before : List Entry) (now others : S) (fault : BatchFault) → BreaksOff id sources source refs before now others fault
+    → (told_of_batch fault ≡ Some ReadFault → ⊥) → AreQuiet sources source refs now others
+off_quiet id sources source refs before now others fault (inl h) untold = record { quiet = h.quiet (λ e. untold (ap told_of_batch e)); quiet_refs = ap sources.faults h.same_refs }
+off_quiet id sources source refs before now others fault (inr h) untold = record { quiet = h.quiet; quiet_refs = h.quiet_refs (λ e. untold (ap told_of_batch e)) }
 
 -- `Gives` is a way to read a batch on, of which an input of type `I` holds the reader and the two sources.
 module _ {S I N : Type 0} (id : Kind → List ℕ → List ℕ) (sources : Sources S) (source refs : S) (state : I → BatchState) (objects_of refs_of : I → S) (Gives : I → Result (Next N InputFault) Memory → I → Type 0)
@@ -108,6 +115,19 @@ module _ {S I N : Type 0} (id : Kind → List ℕ → List ℕ) (sources : Sourc
       let read = (gave_some i objects now h g).read told in
       inl (record { given = read.given; at = (state now).held.place; rest = _; reaches = read.reaches; kept = read.keeps })
   may_give i objects now h (inr (snapshot, g)) told = inr (record { meaning = meaning_of objects snapshot; means = means_all i objects snapshot now h g told; among = λ m c. c })
+
+  -- Nothing failed of what gave all, or what it gave so far.
+  pub all_quiet : (i : I) (objects : List Entry) (snapshot : List ℕ) (now : I) → Stands [] i → GaveAll Gives i objects snapshot now → AreQuiet sources source refs (objects_of now) (refs_of now)
+  all_quiet i objects snapshot now h g = let e = ended i objects snapshot now h g in record { quiet = e.quiet; quiet_refs = e.quiet_refs }
+
+  pub given_quiet : (i : I) (objects : List Entry) (now : I) → Stands [] i → MayHaveGiven Gives i objects now → AreQuiet sources source refs (objects_of now) (refs_of now)
+  given_quiet i objects now h (inl g) = let still = gave_some i objects now h g in record { quiet = still.quiet; quiet_refs = ap sources.faults still.same_refs }
+  given_quiet i objects now h (inr (snapshot, g)) = all_quiet i objects snapshot now h g
+
+  -- Where it broke, a failure is told.
+  pub broke_quiet : ((i : I) (found : Result (Next N InputFault) Memory) (now : I) (before : List Entry) → Gives i found now → Stands before i → (IsNextFault found → ⊥) → AreQuiet sources source refs (objects_of now) (refs_of now))
+      → (i : I) (bad : InputFault) (now : I) → Stands [] i → Broke Gives i bad now → (bad ≡ ReadFault → ⊥) → AreQuiet sources source refs (objects_of now) (refs_of now)
+  broke_quiet hears i bad now h g untold = hears g.mid (Ok (next.Bad bad)) now g.front g.gives (so_far i g.front g.mid h g.so_far) (λ e. untold (let same : bad ≡ ReadFault = cc in same))
 
   -- Each object that it gave is one.
   pub objects_given : (i : I) (objects : List Entry) (now : I) → Stands [] i → MayHaveGiven Gives i objects now → AllByRecursion (IsObject id) objects

@@ -1,9 +1,10 @@
 -- What the readers' faults say of an input.
-use Rattle.std.proofs.Common.{◌≡◌, ℕ, Some, Option, List, Result, Ok, Err, refl, sym, subst}
-use Rattle.std.specs.Prelude.{IfSome, IfOk}
+use Rattle.std.proofs.Common.{◌≡◌, ℕ, Some, None, Option, List, Result, Ok, Err, refl, sym, ap, ◌∙◌, subst}
+use Rattle.std.specs.Prelude.{IfSome, IfOk, IfErr}
 use Rattle.std.specs.List.{AllByRecursion}
 use Rattle.swh_base.specs.declared.kind.Kind.{Kind}
 use Rattle.swh_base.specs.declared.entry.Entry.{Entry}
+use Rattle.swh_base.specs.declared.memory.Memory.{Memory}
 use Rattle.swh_base.specs.declared.visit.VisitKind.TheVariants.{Fast, Dir, Batch}
 use Rattle.swh_outside.specs.Faults.{Rose}
 use Rattle.swh_outside.specs.Folder.{Tree}
@@ -31,9 +32,10 @@ use Rattle.swh_walk.specs.Loading.{IsWhole}
 use Rattle.swh_walk.specs.declared.input.Input.{Input as Given}
 use Rattle.swh_walk.specs.declared.input.Input.TheVariants as given
 use Rattle.swh_inputs.specs.declared.bad.InputFault.{InputFault}
+use Rattle.swh_inputs.specs.declared.bad.InputFault.TheVariants.{ReadFault}
 use Rattle.swh_inputs.specs.Input.{listing_text, BreaksBoth, MayBreakBoth, MeansInput, BreaksInput, MayBreakInput}
 use Rattle.swh_inputs.specs.Input.InputText.{StreamText, FolderText, BatchText}
-use Rattle.swh_inputs.specs.Reading.{GivesSo, IsTold, told_of_stream, told_of_folder, told_of_batch}
+use Rattle.swh_inputs.specs.Reading.{GivesSo, IsReadFault, IsTold, told_of_stream, told_of_folder, told_of_batch}
 
 module _ {N : Type 0} (id : Kind → List ℕ → List ℕ) where
   -- an input that gives nothing
@@ -50,6 +52,21 @@ module _ {N : Type 0} (id : Kind → List ℕ → List ℕ) where
   pub told_whole : {E : Type 0} (r : Result (Given N InputFault) E) (told : Option InputFault) → IfOk r (IsTold told) → IfOk r (IsWhole id)
   told_whole (Ok read) told (fault, is, same) = subst (IsWhole id) (sym same) tt
   told_whole (Err e) told is = tt
+
+-- A failure that a reader tells is told.
+heard : {N : Type 0} (r : Result (Given N InputFault) Memory) (told : Option InputFault) → IfOk r (IsTold told) → IfErr r (λ _. told ≡ None) → told ≡ Some ReadFault → IsReadFault r
+heard (Ok read) told (fault, is, same) none e =
+    let failed : fault ≡ ReadFault = cc in
+    ap Ok (same ∙ ap (λ (f : InputFault). given.Bad f) failed)
+heard (Err m) told is none e = let no : None ≡ Some ReadFault = sym none ∙ e in absurd cc
+
+-- so a folder's is
+pub folder_heard : {N : Type 0} (r : Result (Given N InputFault) Memory) (fault : DirFault) → IfOk r (IsTold (told_of_folder fault)) → IfErr r (λ _. told_of_folder fault ≡ None) → fault ≡ of_folder.ReadFault → IsReadFault r
+folder_heard r fault told none e = heard r (told_of_folder fault) told none (ap told_of_folder e)
+
+-- and that of a batch or its refs
+pub batch_heard : {N : Type 0} (r : Result (Given N InputFault) Memory) (fault : BatchFault) → IfOk r (IsTold (told_of_batch fault)) → IfErr r (λ _. told_of_batch fault ≡ None) → fault ≡ of_batch.ReadFault → IsReadFault r
+batch_heard r fault told none e = heard r (told_of_batch fault) told none (ap told_of_batch e)
 
 module _ (N : Type 0) (id : Kind → List ℕ → List ℕ) where
   -- a stream's

@@ -1,7 +1,8 @@
 -- A batch with its refs that is read part by part, as a loader reads it.
-use Rattle.std.specs.Prelude.{◌⊎◌, ℕ, ◌<◌, ◌≤◌, Some, List, ◌++◌}
+use Rattle.std.specs.Prelude.{◌≡◌, ◌⊎◌, ℕ, ◌<◌, ◌≤◌, Some, Result, Ok, List, ◌++◌}
 use Rattle.swh_base.specs.declared.kind.Kind.{Kind}
 use Rattle.swh_base.specs.declared.entry.Entry.{Entry}
+use Rattle.swh_base.specs.declared.memory.Memory.{Memory}
 use Rattle.swh_base.specs.declared.visit.VisitKind.TheVariants.{Batch}
 use Rattle.swh_outside.specs.Faults.{Rose}
 use Rattle.swh_outside.specs.Views.{Sources}
@@ -13,6 +14,7 @@ use Rattle.swh_walk.specs.declared.parts.Next.TheVariants as next
 use Rattle.swh_inputs.specs.Input.InputText.{BatchText}
 use Rattle.swh_inputs.specs.Reading.{GivesSo}
 use Rattle.swh_inputs.specs.declared.bad.InputFault.{InputFault}
+use Rattle.swh_inputs.specs.declared.bad.InputFault.TheVariants.{ReadFault}
 
 -- The batch may be read on.
 abbrev pub BatchMayGoOn : BatchState → Type 0
@@ -22,6 +24,15 @@ BatchMayGoOn s = s.held.place ≤ input_limit
 pub record BatchCameOn (old new : BatchState) : Type 0 where
   pub still : BatchMayGoOn new
   pub onward : old.held.place < new.held.place
+
+-- It is told that a source failed.
+abbrev pub IsNextFault : {N : Type 0} → Result (Next N InputFault) Memory → Type 0
+IsNextFault found = found ≡ Ok (next.Bad ReadFault)
+
+-- Neither source failed: their counts of faults are as they were.
+pub record AreQuiet {S : Type 0} (sources : Sources S) (source refs now others : S) : Type 0 where
+  pub quiet : sources.faults now ≡ sources.faults source
+  pub quiet_refs : sources.faults others ≡ sources.faults refs
 
 module _ {S : Type 0} (id : Kind → List ℕ → List ℕ) (sources : Sources S) (source refs : S) where
   -- What comes after these objects.

@@ -59,6 +59,10 @@ HasGoodHead (Batch objects refs) = Unit {0}
 abbrev pub RoseOf : {X : Type 0} → (X → ℕ) → X → X → Type 0
 RoseOf faults x now = Rose (faults x) (faults now)
 
+-- The count of faults is as it was.
+abbrev pub IsQuietOf : {X : Type 0} → (X → ℕ) → X → X → Type 0
+IsQuietOf faults x now = faults now ≡ faults x
+
 -- What holds of two parts that were found, and of no others.
 abbrev pub IfBothFound : {X : Type 0} → (X → X → Type 0) → Opened X → Opened X → Type 0
 IfBothFound P (Found x) (Found y) = P x y
@@ -113,6 +117,13 @@ module _ {S F : Type 0} (p : Parts S F) where
   HasFailed (Dir folder (Some modes)) (Dir now (Some listing)) = IfBothFound (RoseOf p.folders.faults) folder now ⊎ IfBothFound (RoseOf p.sources.faults) modes listing
   HasFailed (Batch objects refs) (Batch now others) = IfBothFound (RoseOf p.sources.faults) objects now ⊎ IfBothFound (RoseOf p.sources.faults) refs others
   HasFailed _ _ = ⊥
+
+  -- No part of the input failed: each count of faults is as it was. Of a stream it is not said.
+  abbrev pub IsQuiet : Input S F → Input S F → Type 0
+  IsQuiet (Fast stream head) (Fast now other) = Unit {0}
+  IsQuiet (Dir folder modes) (Dir now listing) = IsSamePart (IsQuietOf p.folders.faults) folder now × IsSameListing (IsQuietOf p.sources.faults) modes listing
+  IsQuiet (Batch objects refs) (Batch now others) = IsSamePart (IsQuietOf p.sources.faults) objects now × IsSamePart (IsQuietOf p.sources.faults) refs others
+  IsQuiet _ _ = ⊥
 
   -- The input is as it was opened, with the same parts.
   abbrev pub IsSameInput : Input S F → Input S F → Type 0

@@ -1,6 +1,7 @@
 -- What a reading of an input gives.
-use Rattle.std.specs.Prelude.{◌≡◌, ℕ, Option, Some, None, List, IfSome}
+use Rattle.std.specs.Prelude.{◌≡◌, ℕ, Option, Some, None, Result, Ok, List, IfSome}
 use Rattle.swh_base.specs.declared.kind.Kind.{Kind}
+use Rattle.swh_base.specs.declared.memory.Memory.{Memory}
 use Rattle.swh_base.specs.declared.visit.VisitKind.{VisitKind}
 use Rattle.swh_fastload.specs.Loaded.{making_of}
 use Rattle.swh_fastload.specs.declared.bad.BadStream.TheVariants as stream
@@ -42,6 +43,10 @@ module _ {S F : Type 0} (id : Kind → List ℕ → List ℕ) (p : Parts S F) (i
   -- count of faults of its parts rose.
   abbrev pub IsRead : {N : Type 0} → Input S F → Given N InputFault → Type 0
   IsRead now read = GivesSo id (kind_of i) (TellAll p i) (text_of p i) (HasFailed p i now) read
+
+-- It is told that a part of the input failed.
+abbrev pub IsReadFault : {N : Type 0} → Result (Given N InputFault) Memory → Type 0
+IsReadFault found = found ≡ Ok (given.Bad ReadFault)
 
 -- What is given is why there is nothing, where that is told.
 abbrev pub IsTold : {N : Type 0} → Option InputFault → Given N InputFault → Type 0

@@ -4,7 +4,7 @@ ghost use Rattle.swh_base.specs.declared.entry.Entry.{Entry};
 ghost use Rattle.swh_outside.specs.Views.{sources};
 ghost use Rattle.swh_batchread.specs.Giving.{GoesOn};
 ghost use Rattle.swh_walk.specs.Parts.{IsMore};
-ghost use Rattle.swh_inputs.specs.Batching.{BatchCameOn, BatchMayGoOn, IsNextOfBatch};
+ghost use Rattle.swh_inputs.specs.Batching.{AreQuiet, BatchCameOn, BatchMayGoOn, IsNextFault, IsNextOfBatch};
 ghost use Rattle.swh_inputs.specs.Parts.{IsSameSource};
 
 use crate::bad::InputFault;
@@ -51,6 +51,12 @@ pub fn next_of_batch<N: Namer, S: Source>(
         input.old.parts input.old.objects.now input.old.refs.now
         → IfOk result (IsNextOfBatch N.id_of (sources S.tells S.left S.faults S.path) source others given
         input.new.parts input.new.objects.now input.new.refs.now) }
+    // Nothing fails unheard: where it is not told that a source failed, none did.
+    ensures quiet { (source : _) (others : _) (given : List Entry)
+        → GoesOn N.id_of (sources S.tells S.left S.faults S.path) source others given
+        input.old.parts input.old.objects.now input.old.refs.now
+        → (IsNextFault result → ⊥) → AreQuiet (sources S.tells S.left S.faults S.path) source others
+        input.new.objects.now input.new.refs.now }
     ensures on { IfOk result (λ next. IsMore next → BatchCameOn input.old.parts input.new.parts) }
     ensures same_reference { input.new.objects.ghost_name ≡ input.old.objects.ghost_name }
     ensures same_refs_reference { input.new.refs.ghost_name ≡ input.old.refs.ghost_name }

@@ -11,9 +11,9 @@ ghost use Rattle.swh_walk.specs.declared.input.Opening.TheVariants.{Found};
 ghost use Rattle.swh_inputs.specs.Input.InputText.{StreamText, FolderText, BatchText};
 ghost use Rattle.swh_inputs.specs.declared.input.Input.TheVariants.{Dir as DirInput};
 ghost use Rattle.swh_inputs.specs.Opening.{found_as, found_first, listing_found, opening_of};
-ghost use Rattle.swh_inputs.specs.Parts.{folders, parts, both_given, given, HasGoodHead, IfBothFound, RoseOf};
+ghost use Rattle.swh_inputs.specs.Parts.{folders, parts, both_given, given, HasGoodHead, IfBothFound, IsQuiet, IsQuietOf, RoseOf};
 ghost use Rattle.swh_inputs.specs.Parts.{IsSameSource, IsSameFolder, IsSamePart, IsSameListing, IsSameInput};
-ghost use Rattle.swh_inputs.specs.Reading.{GivesSo, IsRead, IsTold, told_of_stream, told_of_folder, told_of_batch};
+ghost use Rattle.swh_inputs.specs.Reading.{GivesSo, IsRead, IsReadFault, IsTold, told_of_stream, told_of_folder, told_of_batch};
 
 use crate::bad::{BadText, InputFault};
 use crate::input::Input;
@@ -136,6 +136,7 @@ fn read_plain<'a, N: Namer, S: Source + 'a, F: Folder>(
         (Rose (F.faults folder.old) (F.faults folder.new))) }
     ensures whole { IfOk result (IsWhole N.id_of) }
     ensures same { IsSameFolder (folders F.tells F.holds F.faults F.opened_at) folder.old folder.new }
+    ensures quiet { (IsReadFault result → ⊥) → IsQuietOf F.faults folder.old folder.new }
 {
     let none: Option<&'a mut S> = None;
     match load_folder(alloc, namer, folder, none) {
@@ -157,6 +158,8 @@ fn read_listed<N: Namer, S: Source, F: Folder>(
     ensures whole { IfOk result (IsWhole N.id_of) }
     ensures same { IsSameFolder (folders F.tells F.holds F.faults F.opened_at) folder.old folder.new }
     ensures same_source { IsSameSource (sources S.tells S.left S.faults S.path) source.old source.new }
+    ensures quiet { (IsReadFault result → ⊥) → IsQuietOf F.faults folder.old folder.new }
+    ensures quiet_source { (IsReadFault result → ⊥) → IsQuietOf S.faults source.old source.new }
 {
     match load_folder(alloc, namer, folder, Some(source)) {
         Ok(objects) => Ok(Given::Made(objects)),
@@ -177,6 +180,8 @@ fn read_both<N: Namer, S: Source>(
     ensures whole { IfOk result (IsWhole N.id_of) }
     ensures same { IsSameSource (sources S.tells S.left S.faults S.path) objects.old objects.new }
     ensures same_refs { IsSameSource (sources S.tells S.left S.faults S.path) refs.old refs.new }
+    ensures quiet { (IsReadFault result → ⊥) → IsQuietOf S.faults objects.old objects.new }
+    ensures quiet_refs { (IsReadFault result → ⊥) → IsQuietOf S.faults refs.old refs.new }
 {
     let of_batch = match read_batch(alloc, namer, objects) {
         Ok(of_batch) => of_batch,
@@ -222,6 +227,8 @@ fn read_dir<N: Namer, S: Source, F: Folder>(
     ensures whole { IfOk result (IsWhole N.id_of) }
     ensures same { IsSameFolder (folders F.tells F.holds F.faults F.opened_at) folder.old folder.new }
     ensures same_listing { IsSameListing (IsSameSource (sources S.tells S.left S.faults S.path)) modes.old modes.new }
+    ensures quiet { (IsReadFault result → ⊥) → IsQuietOf F.faults folder.old folder.new }
+    ensures quiet_listing { (IsReadFault result → ⊥) → IsSameListing (IsQuietOf S.faults) modes.old modes.new }
 {
     match modes {
         None => read_plain::<N, S, F>(alloc, namer, folder),
@@ -244,6 +251,8 @@ fn read_opened<N: Namer, S: Source, F: Folder>(
     ensures whole { IfOk result (IsWhole N.id_of) }
     ensures same { IsSamePart (IsSameFolder (folders F.tells F.holds F.faults F.opened_at)) folder.old folder.new }
     ensures same_listing { IsSameListing (IsSameSource (sources S.tells S.left S.faults S.path)) modes.old modes.new }
+    ensures quiet { (IsReadFault result → ⊥) → IsSamePart (IsQuietOf F.faults) folder.old folder.new }
+    ensures quiet_listing { (IsReadFault result → ⊥) → IsSameListing (IsQuietOf S.faults) modes.old modes.new }
 {
     match folder {
         Opened::Found(folder) => read_dir(alloc, namer, folder, modes),
@@ -265,6 +274,8 @@ fn read_behind<N: Namer, S: Source>(
     ensures whole { IfOk result (IsWhole N.id_of) }
     ensures same { IsSameSource (sources S.tells S.left S.faults S.path) objects.old objects.new }
     ensures same_refs { IsSamePart (IsSameSource (sources S.tells S.left S.faults S.path)) refs.old refs.new }
+    ensures quiet { (IsReadFault result → ⊥) → IsQuietOf S.faults objects.old objects.new }
+    ensures quiet_refs { (IsReadFault result → ⊥) → IsSamePart (IsQuietOf S.faults) refs.old refs.new }
 {
     match refs {
         Opened::Found(source) => read_both(alloc, namer, objects, source),
@@ -286,6 +297,8 @@ fn read_pair<N: Namer, S: Source>(
     ensures whole { IfOk result (IsWhole N.id_of) }
     ensures same { IsSamePart (IsSameSource (sources S.tells S.left S.faults S.path)) objects.old objects.new }
     ensures same_refs { IsSamePart (IsSameSource (sources S.tells S.left S.faults S.path)) refs.old refs.new }
+    ensures quiet { (IsReadFault result → ⊥) → IsSamePart (IsQuietOf S.faults) objects.old objects.new }
+    ensures quiet_refs { (IsReadFault result → ⊥) → IsSamePart (IsQuietOf S.faults) refs.old refs.new }
 {
     match objects {
         Opened::Found(source) => read_behind(alloc, namer, source, refs),
@@ -310,6 +323,9 @@ pub fn read_input<N: Namer, S: Source, F: Folder>(
         (folders F.tells F.holds F.faults F.opened_at)) input.old input.new) }
     // The objects have all of their children, and the snapshot is one of them.
     ensures whole { IfOk result (IsWhole N.id_of) }
+    // Nothing fails unheard: where it is not told that a part failed, none did.
+    ensures quiet { (IsReadFault result → ⊥) → IsQuiet (parts (sources S.tells S.left S.faults S.path)
+        (folders F.tells F.holds F.faults F.opened_at)) input.old input.new }
 
     ensures same { IsSameInput (parts (sources S.tells S.left S.faults S.path)
         (folders F.tells F.holds F.faults F.opened_at)) input.old input.new }

@@ -25,16 +25,16 @@ use Rattle.swh_walk.proofs.Closes.{whole_good}
 use Rattle.swh_alone.specs.Loading.{AddsVisit, EndsVisit, IsHeldBack, MakesVisitCalls, NoCountFell, Stops}
 use Rattle.swh_inputs.specs.Input.{InputText}
 use Rattle.swh_inputs.specs.Input.InputText.{BatchText}
-use Rattle.swh_inputs.specs.Parts.{Parts}
-use Rattle.swh_inputs.specs.Batching.{BatchCameOn, BatchMayGoOn, IsNextOfBatch}
+use Rattle.swh_inputs.specs.Parts.{Parts, IsQuiet}
+use Rattle.swh_inputs.specs.Batching.{AreQuiet, BatchCameOn, BatchMayGoOn, IsNextFault, IsNextOfBatch}
 use Rattle.swh_inputs.specs.declared.bad.InputFault.{InputFault}
 use Rattle.swh_inputs.specs.declared.bad.InputFault.TheVariants as fault
 use Rattle.swh_inputs.specs.declared.input.Input.{Input}
 use Rattle.swh_inputs.specs.declared.input.Input.TheVariants.{Batch}
-use Rattle.swh_inputs.proofs.Batchings.{KeepsBoth, keeps_itself, broke_so, may_give, means_all, objects_given, reaches_all, read_kept}
-use Rattle.swh_loader.specs.Ending.{MayGiveObjects, IsJobEnd, end_for, held_bodies, outcome_for}
+use Rattle.swh_inputs.proofs.Batchings.{KeepsBoth, keeps_itself, all_quiet, broke_quiet, broke_so, given_quiet, may_give, means_all, objects_given, reaches_all, read_kept}
+use Rattle.swh_loader.specs.Ending.{MayGiveObjects, IsJobEnd, IsQuietEnd, end_for, held_bodies, outcome_for}
 use Rattle.swh_loader.specs.Leaving.{AreAllowed, IsLoadOf}
-use Rattle.swh_loader.proofs.Leaves.{given_by}
+use Rattle.swh_loader.proofs.Leaves.{broken_quiet, given_by}
 use Rattle.swh_loader.proofs.Outcomes.{load_of}
 
 -- A batch that gave a part may be read on, and fewer parts may come.
@@ -89,12 +89,25 @@ module _ {S F I N : Type 0} (id : Kind → List ℕ → List ℕ) (p : Parts S F
     batch_kept now (inl still) = subst (λ (x : I). KeepsBoth p.sources objects_of refs_of name_of refs_name_of i x) (sym still) (keeps_itself p.sources objects_of refs_of name_of refs_name_of i)
     batch_kept now (inr was) = read_kept p.sources objects_of refs_of name_of refs_name_of Gives keeps i now was.read
 
-    -- All that is said of the load.
-    pub batch_load : {D : Type 0} (disks : Disks D) (a : Attempt) (old new : Kept D) (now : I) (result : Result (Loaded InputFault) LoadFault)
-        → IfOk result (λ loaded. EndsVisit a old new loaded.visit (statuses_of loaded.end)) → IfOk result (λ loaded. walking.IsGivenEndAt Gives Found (held_bodies new) i now loaded.end)
-        → AddsVisit (walking.AreAllowed Gives Found i) a old.history new.history → (disks.tells → MakesVisitCalls id disks (walking.AreAllowed Gives Found i) a old new) → ((n : ℕ) → old.wounded ≡ Some n → IsHeldBack old new result)
-        → IfErr result (Stops id disks (walking.AreAllowed Gives Found i) a old new) → NoCountFell disks old new → walking.IsSameOrReadOn Gives Found i now → IsLoadOf id p disks a (input i) (input now) old new (outcome_for result)
-    batch_load disks a old new now result ended end adds calls wounded stops later read =
-        let kept = batch_kept now read in
-        load_of id p disks a (input i) (input now) old new (walking.AreAllowed Gives Found i) (walking.IsGivenEndAt Gives Found (held_bodies new) i now)
-        batch_allowed (batch_end now (held_bodies new)) result ended end adds calls wounded stops later (kept.same, kept.same_refs)
+    -- Where reading on tells each failure, so does the load.
+    module _ (hears : (a : I) (found : Result (Next N InputFault) Memory) (now : I) (given : List Entry) → Gives a found now → GoesOn id p.sources (objects_of i) (refs_of i) given (state a) (objects_of a) (refs_of a)
+        → (IsNextFault found → ⊥) → AreQuiet p.sources (objects_of i) (refs_of i) (objects_of now) (refs_of now)) where
+      quiet_input : (now : I) → AreQuiet p.sources (objects_of i) (refs_of i) (objects_of now) (refs_of now) → IsQuiet p (input i) (input now)
+      quiet_input now h = (h.quiet, h.quiet_refs)
+
+      batch_quiet : (now : I) (bodies : Bodies) (end : walk.End InputFault) → walking.IsGivenEndAt Gives Found bodies i now end → IsQuietEnd p (input i) (input now) (end_for end)
+      batch_quiet now bodies (Full snapshot) h = quiet_input now (all_quiet id p.sources (objects_of i) (refs_of i) state objects_of refs_of Gives on i h.0 snapshot now begins h.1)
+      batch_quiet now bodies (Met name) h = quiet_input now (given_quiet id p.sources (objects_of i) (refs_of i) state objects_of refs_of Gives on i h.0 now begins h.1)
+      batch_quiet now bodies (Bad bad) h = broken_quiet p (input i) (input now) bad (λ untold. quiet_input now (broke_quiet id p.sources (objects_of i) (refs_of i) state objects_of refs_of Gives on hears i bad now begins h.broke untold))
+      batch_quiet now bodies NotFound h = absurd h
+      batch_quiet now bodies Unread h = absurd h
+
+      -- All that is said of the load.
+      pub batch_load : {D : Type 0} (disks : Disks D) (a : Attempt) (old new : Kept D) (now : I) (result : Result (Loaded InputFault) LoadFault)
+          → IfOk result (λ loaded. EndsVisit a old new loaded.visit (statuses_of loaded.end)) → IfOk result (λ loaded. walking.IsGivenEndAt Gives Found (held_bodies new) i now loaded.end)
+          → AddsVisit (walking.AreAllowed Gives Found i) a old.history new.history → (disks.tells → MakesVisitCalls id disks (walking.AreAllowed Gives Found i) a old new) → ((n : ℕ) → old.wounded ≡ Some n → IsHeldBack old new result)
+          → IfErr result (Stops id disks (walking.AreAllowed Gives Found i) a old new) → NoCountFell disks old new → walking.IsSameOrReadOn Gives Found i now → IsLoadOf id p disks a (input i) (input now) old new (outcome_for result)
+      batch_load disks a old new now result ended end adds calls wounded stops later read =
+          let kept = batch_kept now read in
+          load_of id p disks a (input i) (input now) old new (walking.AreAllowed Gives Found i) (walking.IsGivenEndAt Gives Found (held_bodies new) i now)
+          batch_allowed (batch_end now (held_bodies new)) (batch_quiet now (held_bodies new)) result ended end adds calls wounded stops later (kept.same, kept.same_refs)

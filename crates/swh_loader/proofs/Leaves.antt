@@ -24,7 +24,7 @@ use Rattle.swh_walk.specs.Owning.{AreAmong}
 use Rattle.swh_walk.proofs.Closes.{whole_good}
 use Rattle.swh_inputs.specs.Input.{InputText, MeansInput, MayBreakInput}
 use Rattle.swh_inputs.specs.Opening.{kind_of, opening_of}
-use Rattle.swh_inputs.specs.Parts.{Parts, text_of, IsSameInput, IsSamePart, IsSameListing, IsSameSource, IsSameFolder}
+use Rattle.swh_inputs.specs.Parts.{Parts, text_of, IsQuiet, IsQuietOf, IsSameInput, IsSamePart, IsSameListing, IsSameSource, IsSameFolder}
 use Rattle.swh_inputs.specs.Reading.{IsRead}
 use Rattle.swh_inputs.proofs.Streamings.{meant_given}
 use Rattle.swh_inputs.specs.declared.bad.BadText.{BadText}
@@ -36,7 +36,7 @@ use Rattle.swh_inputs.specs.declared.input.Input.TheVariants.{Fast, Dir, Batch}
 use Rattle.swh_loader.specs.declared.end.BadInput.TheVariants.{Broken, Collision, Read}
 use Rattle.swh_loader.specs.declared.end.End.{End}
 use Rattle.swh_loader.specs.declared.end.End.TheVariants as reported
-use Rattle.swh_loader.specs.Ending.{MeansObjects, MayGiveObjects, IsGivenBy, AreGivenBy, IsEndOf, IsEndAt, IsJobEnd, end_for, statuses_of}
+use Rattle.swh_loader.specs.Ending.{MeansObjects, MayGiveObjects, IsGivenBy, AreGivenBy, IsEndOf, IsEndAt, IsJobEnd, IsQuietEnd, end_for, statuses_of}
 use Rattle.swh_loader.specs.Leaving.{AreAllowed, AreAllowedAt}
 use Rattle.swh_loader.specs.Report.{detail_limit, end_room, text_room}
 
@@ -106,14 +106,25 @@ module _ {S F : Type 0} (p : Parts S F) where
   same_folder : (f : F) → IsSameFolder p.folders f f
   same_folder f = record { path = refl; later = le_refl (p.folders.faults f); holds = λ told. refl }
 
-  listing_as_it_was : (modes : Option (Opened S)) → IsSameListing (IsSameSource p.sources) modes modes
-  listing_as_it_was (Some part) = part_as_it_was (IsSameSource p.sources) same_source part
-  listing_as_it_was None = tt
+  listing_as_it_was : (IsSame : S → S → Type 0) → ((s : S) → IsSame s s) → (modes : Option (Opened S)) → IsSameListing IsSame modes modes
+  listing_as_it_was IsSame same (Some part) = part_as_it_was IsSame same part
+  listing_as_it_was IsSame same None = tt
 
   pub as_it_was : (i : Input S F) → IsSameInput p i i
   as_it_was (Fast stream head) = (part_as_it_was (IsSameSource p.sources) same_source stream, refl)
-  as_it_was (Dir folder modes) = (part_as_it_was (IsSameFolder p.folders) same_folder folder, listing_as_it_was modes)
+  as_it_was (Dir folder modes) = (part_as_it_was (IsSameFolder p.folders) same_folder folder, listing_as_it_was (IsSameSource p.sources) same_source modes)
   as_it_was (Batch objects refs) = (part_as_it_was (IsSameSource p.sources) same_source objects, part_as_it_was (IsSameSource p.sources) same_source refs)
+
+  -- what is as it was did not fail
+  quiet_as_it_was : (i : Input S F) → IsQuiet p i i
+  quiet_as_it_was (Fast stream head) = tt
+  quiet_as_it_was (Dir folder modes) = (part_as_it_was (IsQuietOf p.folders.faults) (λ f. refl) folder, listing_as_it_was (IsQuietOf p.sources.faults) (λ s. refl) modes)
+  quiet_as_it_was (Batch objects refs) = (part_as_it_was (IsQuietOf p.sources.faults) (λ s. refl) objects, part_as_it_was (IsQuietOf p.sources.faults) (λ s. refl) refs)
+
+  -- where an input broke so, and nothing failed
+  pub broken_quiet : (i now : Input S F) (bad : InputFault) → ((bad ≡ fault.ReadFault → ⊥) → IsQuiet p i now) → IsQuietEnd p i now (end_for (Bad bad))
+  broken_quiet i now (fault.Bad bad) quiet = quiet (λ e. absurd cc)
+  broken_quiet i now fault.ReadFault quiet = tt
 
 module _ {S F : Type 0} (id : Kind → List ℕ → List ℕ) (p : Parts S F) where
   -- the report of an end has a bound
@@ -163,6 +174,15 @@ module _ {S F N : Type 0} (id : Kind → List ℕ → List ℕ) (p : Parts S F) 
   read_end bodies i now (given.Bad (fault.Bad bad)) end r w h = subst (λ (e : walk.End InputFault). IsEndOf id p bodies i now (end_for e)) (sym h) r
   read_end bodies i now (given.Bad fault.ReadFault) end r w h = subst (λ (e : walk.End InputFault). IsEndOf id p bodies i now (end_for e)) (sym h) r
 
+  -- where nothing failed unheard
+  read_quiet : (bodies : Bodies) (i now : Input S F) (x : Given N InputFault) (end : walk.End InputFault) → ((x ≡ given.Bad fault.ReadFault → ⊥) → IsQuiet p i now) → walking.IsEndOf bodies x end → IsQuietEnd p i now (end_for end)
+  read_quiet bodies i now (given.Made made) (Full snapshot) quiet h = quiet (λ e. absurd cc)
+  read_quiet bodies i now (given.Made made) (Met name) quiet h = quiet (λ e. absurd cc)
+  read_quiet bodies i now (given.Made made) NotFound quiet h = absurd h
+  read_quiet bodies i now (given.Made made) Unread quiet h = absurd h
+  read_quiet bodies i now (given.Made made) (Bad bad) quiet h = absurd h
+  read_quiet bodies i now (given.Bad bad) end quiet h = subst (λ (e : walk.End InputFault). IsQuietEnd p i now (end_for e)) (sym h) (broken_quiet p i now bad (λ untold. quiet (λ e. untold (let same : bad ≡ fault.ReadFault = cc in same))))
+
   -- What reading an input answers.
   module _ {E : Type 0} (Reads : Input S F → Result (Given N InputFault) E → Input S F → Type 0) (read : (i now : Input S F) (x : Given N InputFault) → Reads i (Ok x) now → IsRead id p i now x)
       (whole : (i now : Input S F) (x : Given N InputFault) → Reads i (Ok x) now → walking.IsWhole id x) (same : (i now : Input S F) (r : Result (Given N InputFault) E) → Reads i r now → IsSameInput p i now) where
@@ -183,6 +203,16 @@ module _ {S F N : Type 0} (id : Kind → List ℕ → List ℕ) (p : Parts S F) 
 
     pub job_end : (bodies : Bodies) (i now : Input S F) (end : walk.End InputFault) → walking.IsEndAt Reads (opening_of i) bodies i now end → IsJobEnd id p bodies i now (end_for end)
     job_end bodies i now end h = end_at (opening_of i) bodies i now end h
+
+    module _ (quiet : (i now : Input S F) (x : Given N InputFault) → Reads i (Ok x) now → (x ≡ given.Bad fault.ReadFault → ⊥) → IsQuiet p i now) where
+      quiet_at : (o : Opening) (bodies : Bodies) (i now : Input S F) (end : walk.End InputFault) → walking.IsEndAt Reads o bodies i now end → IsQuietEnd p i now (end_for end)
+      quiet_at opening.Found bodies i now end h = read_quiet bodies i now h.given end (quiet i now h.given h.read) h.is_end
+      quiet_at opening.NotFound bodies i now end h = subst (λ (e : walk.End InputFault). IsQuietEnd p i now (end_for e)) (sym h.0) (subst (IsQuiet p i) (sym h.1) (quiet_as_it_was p i))
+      quiet_at opening.Failed bodies i now end h = subst (λ (e : walk.End InputFault). IsQuietEnd p i now (end_for e)) (sym h.0) tt
+      quiet_at opening.Memory bodies i now end h = absurd h
+
+      pub job_quiet : (bodies : Bodies) (i now : Input S F) (end : walk.End InputFault) → walking.IsEndAt Reads (opening_of i) bodies i now end → IsQuietEnd p i now (end_for end)
+      job_quiet bodies i now end h = quiet_at (opening_of i) bodies i now end h
 
     pub same_input : (i now : Input S F) → walking.IsSameOrRead Reads (opening_of i) i now → IsSameInput p i now
     same_input i now (inl is) = subst (IsSameInput p i) (sym is) (as_it_was p i)

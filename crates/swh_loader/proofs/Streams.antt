@@ -32,7 +32,7 @@ use Rattle.swh_inputs.specs.declared.bad.InputFault.TheVariants as fault
 use Rattle.swh_inputs.specs.declared.input.Input.{Input}
 use Rattle.swh_inputs.specs.declared.input.Input.TheVariants.{Fast}
 use Rattle.swh_inputs.proofs.Streamings.{broke_so, failed_so, may_give, means_all, objects_given, reaches_all, read_kept}
-use Rattle.swh_loader.specs.Ending.{MayGiveObjects, IsJobEnd, end_for, held_bodies, outcome_for}
+use Rattle.swh_loader.specs.Ending.{MayGiveObjects, IsJobEnd, IsQuietEnd, end_for, held_bodies, outcome_for}
 use Rattle.swh_loader.specs.Leaving.{AreAllowed, IsLoadOf}
 use Rattle.swh_loader.proofs.Leaves.{given_by}
 use Rattle.swh_loader.proofs.Outcomes.{load_of}
@@ -91,6 +91,14 @@ module _ {S F N : Type 0} (id : Kind → List ℕ → List ℕ) (p : Parts S F) 
     stream_end bodies NotFound h = absurd h
     stream_end bodies Unread h = absurd h
 
+    stream_quiet : (end : walk.End InputFault) → IsQuietEnd p (input s) (input back) (end_for end)
+    stream_quiet (Full snapshot) = tt
+    stream_quiet (Met name) = tt
+    stream_quiet (Bad (fault.Bad bad)) = tt
+    stream_quiet (Bad fault.ReadFault) = tt
+    stream_quiet NotFound = tt
+    stream_quiet Unread = tt
+
     -- The reader's path has the name of the loan before the source's own.
     module _ (keeps : (i : StreamState) (found : Result (Next N InputFault) Memory) (now : StreamState) → Gives i found now → Keeps i now) where
       kept : walking.IsSameOrReadOn Gives Found i now → (now.standing.place.path ≡ path) × (p.sources.faults s ≤ now.standing.place.faults)
@@ -119,4 +127,4 @@ module _ {S F N : Type 0} (id : Kind → List ℕ → List ℕ) (p : Parts S F) 
           → IfErr result (Stops id disks (walking.AreAllowed Gives Found i) a old new) → NoCountFell disks old new → walking.IsSameOrReadOn Gives Found i now → IsLoadOf id p disks a (input s) (input back) old new (outcome_for result)
       stream_load disks a old new name other begun ended_at result ended end adds calls wounded stops later read =
           load_of id p disks a (input s) (input back) old new (walking.AreAllowed Gives Found i) (walking.IsGivenEndAt Gives Found (held_bodies new) i now)
-          stream_allowed (stream_end (held_bodies new)) result ended end adds calls wounded stops later (stream_same name other begun ended_at read)
+          stream_allowed (stream_end (held_bodies new)) (λ end is. stream_quiet end) result ended end adds calls wounded stops later (stream_same name other begun ended_at read)

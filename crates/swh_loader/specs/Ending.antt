@@ -20,7 +20,7 @@ use Rattle.swh_walk.specs.Sending.{AllHeld, IsMet}
 use Rattle.swh_inputs.specs.Input.{InputText, MeansInput}
 use Rattle.swh_inputs.specs.Streaming.{MayGiveInput}
 use Rattle.swh_inputs.specs.Opening.{opening_of}
-use Rattle.swh_inputs.specs.Parts.{Parts, IfTold, HasFailed}
+use Rattle.swh_inputs.specs.Parts.{Parts, IfTold, HasFailed, IsQuiet}
 use Rattle.swh_inputs.specs.Reading.{BreaksLeft}
 use Rattle.swh_inputs.specs.declared.bad.InputFault.{InputFault}
 use Rattle.swh_inputs.specs.declared.bad.InputFault.TheVariants as fault
@@ -83,6 +83,14 @@ pub record Collided (id : Kind → List ℕ → List ℕ) (text : InputText) (bo
   pub objects : List Entry
   pub may : MayGiveObjects id text objects
   pub collision : IsMet bodies objects name
+
+-- Nothing failed unheard: unless the end tells that a part of the input failed, none did.
+abbrev pub IsQuietEnd : {S F : Type 0} → Parts S F → Input S F → Input S F → End → Type 0
+IsQuietEnd p i now (Full snapshot) = IsQuiet p i now
+IsQuietEnd p i now NotFound = IsQuiet p i now
+IsQuietEnd p i now (Failed (Broken bad)) = IsQuiet p i now
+IsQuietEnd p i now (Failed (Collision name)) = IsQuiet p i now
+IsQuietEnd p i now (Failed Read) = Unit {0}
 
 module _ {S F : Type 0} (id : Kind → List ℕ → List ℕ) (p : Parts S F) where
   -- Where the parts of the input tell what they hold, that may give each of these entries.

@@ -14,7 +14,7 @@ use Rattle.swh_inputs.specs.Parts.{Parts, IsSameInput}
 use Rattle.swh_inputs.specs.declared.input.Input.{Input}
 use Rattle.swh_loader.specs.declared.end.Loaded.{Loaded}
 use Rattle.swh_loader.specs.declared.job.Job.{Job}
-use Rattle.swh_loader.specs.Ending.{AreGivenBy, IsJobEnd, held_bodies, statuses_of}
+use Rattle.swh_loader.specs.Ending.{AreGivenBy, IsJobEnd, IsQuietEnd, held_bodies, statuses_of}
 use Rattle.swh_loader.specs.Report.{detail_limit, end_room}
 
 module _ {S F : Type 0} (id : Kind → List ℕ → List ℕ) (p : Parts S F) (i : Input S F) where
@@ -39,6 +39,7 @@ pub record IsSameJob {S F : Type 0} (p : Parts S F) (job now : Job S F) : Type 0
 pub record IsLoadOf {S F D : Type 0} (id : Kind → List ℕ → List ℕ) (p : Parts S F) (disks : Disks D) (a : Attempt) (i now : Input S F) (old new : Kept D) (result : Result Loaded LoadFault) : Type 0 where
   pub ended : IfOk result (λ loaded. EndsVisit a old new loaded.visit (statuses_of loaded.end))
   pub end : IfOk result (λ loaded. IsJobEnd id p (held_bodies new) i now loaded.end)
+  pub quiet : IfOk result (λ loaded. IsQuietEnd p i now loaded.end)
   pub short : IfOk result (λ loaded. end_room loaded.end ≤ detail_limit (kind_of i))
   pub adds : AddsVisit (AreAllowed id p i) a old.history new.history
   pub calls : disks.tells → MakesVisitCalls id disks (AreAllowed id p i) a old new

@@ -7,7 +7,7 @@ ghost use Rattle.swh_outside.specs.declared.fault.Opened.TheVariants.{Found as H
 ghost use Rattle.swh_batchread.specs.Giving.{GoesOn, IsAtStart};
 ghost use Rattle.swh_walk.specs.Owning.{attempt};
 ghost use Rattle.swh_walk.specs.Parts.{IsMore};
-ghost use Rattle.swh_inputs.specs.Batching.{BatchCameOn, BatchMayGoOn, IsNextOfBatch};
+ghost use Rattle.swh_inputs.specs.Batching.{AreQuiet, BatchCameOn, BatchMayGoOn, IsNextFault, IsNextOfBatch};
 ghost use Rattle.swh_inputs.specs.Parts.{folders, parts, IsSameSource};
 ghost use Rattle.swh_inputs.specs.declared.input.Input.TheVariants.{Batch as BatchPair};
 ghost use Rattle.swh_loader.specs.Leaving.{IsLoadOf};
@@ -64,6 +64,11 @@ fn load_pair<N: Namer, D: Disk, S: Source, F: Folder, G: Gate>(
                     input.old.parts input.old.objects.now input.old.refs.now
                     → IfOk result (IsNextOfBatch N.id_of (sources S.tells S.left S.faults S.path) source others given
                     input.new.parts input.new.objects.now input.new.refs.now) }
+                ensures quiet { (source : _) (others : _) (given : List Entry)
+                    → GoesOn N.id_of (sources S.tells S.left S.faults S.path) source others given
+                    input.old.parts input.old.objects.now input.old.refs.now
+                    → (IsNextFault result → ⊥) → AreQuiet (sources S.tells S.left S.faults S.path) source others
+                    input.new.objects.now input.new.refs.now }
                 ensures on { IfOk result (λ next. IsMore next → BatchCameOn input.old.parts input.new.parts) }
                 ensures same_reference { input.new.objects.ghost_name ≡ input.old.objects.ghost_name }
                 ensures same_refs_reference { input.new.refs.ghost_name ≡ input.old.refs.ghost_name }

@@ -6,9 +6,9 @@ ghost use Rattle.swh_walk.specs.Loading.{IsWhole};
 ghost use Rattle.swh_walk.specs.Owning.{attempt};
 ghost use Rattle.swh_alone.specs.Loading.{AddsVisit, EndsVisit, IsHeldBack, MakesVisitCalls, NoCountFell, Stops};
 ghost use Rattle.swh_inputs.specs.Opening.{kind_of, opening_of};
-ghost use Rattle.swh_inputs.specs.Parts.{HasGoodHead, IsSameInput, folders, parts};
-ghost use Rattle.swh_inputs.specs.Reading.{IsRead};
-ghost use Rattle.swh_loader.specs.Ending.{IsJobEnd, held_bodies, statuses_of};
+ghost use Rattle.swh_inputs.specs.Parts.{HasGoodHead, IsQuiet, IsSameInput, folders, parts};
+ghost use Rattle.swh_inputs.specs.Reading.{IsRead, IsReadFault};
+ghost use Rattle.swh_loader.specs.Ending.{IsJobEnd, IsQuietEnd, held_bodies, statuses_of};
 ghost use Rattle.swh_loader.specs.Leaving.{AreAllowed, IsLoadOf, IsSameJob};
 ghost use Rattle.swh_loader.specs.Report.{detail_limit, end_room};
 
@@ -55,6 +55,8 @@ fn load_at_once<N: Namer, D: Disk, S: Source, F: Folder, G: Gate>(
                 ensures whole { IfOk result (IsWhole N.id_of) }
                 ensures same { IsSameInput (parts (sources S.tells S.left S.faults S.path)
                     (folders F.tells F.holds F.faults F.opened_at)) input.old input.new }
+                ensures quiet { (IsReadFault result → ⊥) → IsQuiet (parts (sources S.tells S.left S.faults S.path)
+                    (folders F.tells F.holds F.faults F.opened_at)) input.old input.new }
             { read_input(alloc, namer, input) },
         },
     };
@@ -80,6 +82,9 @@ pub fn load_one<N: Namer, D: Disk, S: Source, F: Folder, G: Gate>(
     // The end says what the input means, and what is held.
     ensures end { IfOk result (λ loaded. IsJobEnd N.id_of (parts (sources S.tells S.left S.faults S.path)
         (folders F.tells F.holds F.faults F.opened_at)) (held_bodies keeper.new) job.old.input job.new.input loaded.end) }
+    // Nothing fails unheard: unless the end tells that a part of the input failed, none did.
+    ensures quiet { IfOk result (λ loaded. IsQuietEnd (parts (sources S.tells S.left S.faults S.path)
+        (folders F.tells F.holds F.faults F.opened_at)) job.old.input job.new.input loaded.end) }
     // Its report has a bound by the kind of the input.
     ensures short { IfOk result (λ loaded. end_room loaded.end ≤ detail_limit (kind_of job.old.input)) }
 

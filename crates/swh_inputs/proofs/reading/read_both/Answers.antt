@@ -1,11 +1,12 @@
-use Rattle.std.proofs.Common.{◌⊎◌, inl, inr, Some}
+use Rattle.std.proofs.Common.{◌≡◌, ◌⊎◌, inl, inr, Some}
 use Rattle.swh_base.specs.declared.visit.VisitKind.TheVariants.{Batch}
 use Rattle.swh_outside.specs.Faults.{Rose}
 use Rattle.swh_batchread.specs.BatchFault.{BreaksBatch, MayBreakBatch}
 use Rattle.swh_batchread.specs.RefsFault.{BreaksRefs, MayBreakRefs}
 use Rattle.swh_inputs.specs.Input.InputText.{BatchText}
 use Rattle.swh_inputs.specs.Reading.{GivesSo, told_of_batch}
-use Rattle.swh_inputs.proofs.Gives.{told_so, told_whole, pair_gives, pair_means}
+use Rattle.swh_batchread.specs.declared.fault.BatchFault.TheVariants as of_batch
+use Rattle.swh_inputs.proofs.Gives.{told_so, told_whole, batch_heard, pair_gives, pair_means}
 use Rattle.swh_inputs.proofs.reading.read_both.Goals as goal
 
 pub returns-in-Err-clause-read : goal.returns-in-Err-clause-read
@@ -42,3 +43,9 @@ returns-in-Err-read_refs-clause-read g c =
 
 pub returns-in-Err-read_refs-clause-whole : goal.returns-in-Err-read_refs-clause-whole
 returns-in-Err-read_refs-clause-whole g c = told_whole g.N.Namer.id_of c.told_of_batch-in-Err-read_refs.result (told_of_batch c.in-Err-read_refs.fault) c.told_of_batch-in-Err-read_refs.ensures.told
+
+pub returns-in-Err-clause-quiet : goal.returns-in-Err-clause-quiet
+returns-in-Err-clause-quiet g c = λ untold. c.in-Err.ensures.on.quiet (λ e. untold (batch_heard c.told_of_batch.result c.in-Err.fault c.told_of_batch.ensures.told c.told_of_batch.ensures.memory (let same : c.in-Err.fault ≡ of_batch.ReadFault = cc in same)))
+
+pub returns-in-Err-read_refs-clause-quiet_refs : goal.returns-in-Err-read_refs-clause-quiet_refs
+returns-in-Err-read_refs-clause-quiet_refs g c = λ untold. c.in-Err-read_refs.ensures.on.quiet (λ e. untold (batch_heard c.told_of_batch-in-Err-read_refs.result c.in-Err-read_refs.fault c.told_of_batch-in-Err-read_refs.ensures.told c.told_of_batch-in-Err-read_refs.ensures.memory (let same : c.in-Err-read_refs.fault ≡ of_batch.ReadFault = cc in same)))

@@ -1,9 +1,10 @@
-use Rattle.std.proofs.Common.{◌⊎◌, Some, Err, ap}
+use Rattle.std.proofs.Common.{◌≡◌, ◌⊎◌, Some, Err, ap}
 use Rattle.swh_base.specs.declared.visit.VisitKind.TheVariants.{Dir}
 use Rattle.swh_outside.specs.Faults.{Rose}
 use Rattle.swh_inputs.specs.Input.InputText.{FolderText}
 use Rattle.swh_inputs.specs.Reading.{GivesSo, told_of_folder}
-use Rattle.swh_inputs.proofs.Gives.{told_so, told_whole, folder_gives, folder_means}
+use Rattle.swh_dirload.specs.declared.fault.DirFault.TheVariants as of_folder
+use Rattle.swh_inputs.proofs.Gives.{told_so, told_whole, folder_gives, folder_heard, folder_means}
 use Rattle.swh_inputs.proofs.reading.read_listed.Goals as goal
 
 pub returns-in-Ok-clause-read : goal.returns-in-Ok-clause-read
@@ -20,3 +21,9 @@ returns-in-Err-clause-read g c =
 
 pub returns-in-Err-clause-whole : goal.returns-in-Err-clause-whole
 returns-in-Err-clause-whole g c = told_whole g.N.Namer.id_of c.told_of_folder.result (told_of_folder c.in-Err.fault) c.told_of_folder.ensures.told
+
+pub returns-in-Err-clause-quiet : goal.returns-in-Err-clause-quiet
+returns-in-Err-clause-quiet g c = λ untold. c.in-Err.ensures.quiet (λ e. untold (folder_heard c.told_of_folder.result c.in-Err.fault c.told_of_folder.ensures.told c.told_of_folder.ensures.memory (let same : c.in-Err.fault ≡ of_folder.ReadFault = cc in same)))
+
+pub returns-in-Err-clause-quiet_source : goal.returns-in-Err-clause-quiet_source
+returns-in-Err-clause-quiet_source g c = λ untold. c.in-Err.ensures.quiet_listing (λ e. untold (folder_heard c.told_of_folder.result c.in-Err.fault c.told_of_folder.ensures.told c.told_of_folder.ensures.memory (let same : c.in-Err.fault ≡ of_folder.ReadFault = cc in same)))

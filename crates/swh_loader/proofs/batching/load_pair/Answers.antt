@@ -7,7 +7,7 @@ use Rattle.swh_batchread.specs.Giving.{GoesOn}
 use Rattle.swh_batchread.proofs.Givings.{stands_first}
 use Rattle.swh_walk.specs.Owning.{attempt}
 use Rattle.swh_walk.specs.declared.end.LoadFault.{LoadFault}
-use Rattle.swh_inputs.specs.Batching.{IsNextOfBatch}
+use Rattle.swh_inputs.specs.Batching.{AreQuiet, IsNextOfBatch}
 use Rattle.swh_inputs.specs.Parts.{folders, parts}
 use Rattle.swh_inputs.specs.declared.batching.BatchInput.{BatchInput}
 use Rattle.swh_inputs.specs.declared.input.Input.TheVariants.{Batch as BatchPair}
@@ -21,7 +21,7 @@ pub load_kept_parts-requires-clause-takes : goal.load_kept_parts-requires-clause
 load_kept_parts-requires-clause-takes g c κs within = λ found. (
   omega (arith, c.requires.first),
   λ s ready. search rules,
-  λ s x t ready post. goes_on s.now.parts t.now.parts x ready post.1.0,
+  λ s x t ready post. goes_on s.now.parts t.now.parts x ready post.1.1.0,
   λ s name body ready. search rules,
   λ s name body x t ready post. search rules,
 )
@@ -52,7 +52,9 @@ returns-clause-load g c =
     (stands_first id p.sources i.objects.now i.refs.now i.parts c.requires)
     (λ a x now r. subst (λ (b : BatchInput g.row.N.Denot g.row.S.Denot). KeepsBoth p.sources (λ y. y.objects.now) (λ y. y.refs.now) (λ y. y.objects.ghost_name) (λ y. y.refs.ghost_name) b now) r.2
     (subst (λ (b : BatchInput g.row.N.Denot g.row.S.Denot). KeepsBoth p.sources (λ y. y.objects.now) (λ y. y.refs.now) (λ y. y.objects.ghost_name) (λ y. y.refs.ghost_name) r.0.now b) r.4
-    (record { same_reference = r.3.1.1.0; same_refs_reference = r.3.1.1.1.0; same = r.3.1.1.1.1.0; same_refs = r.3.1.1.1.1.1 })))
+    (record { same_reference = r.3.1.1.1.0; same_refs_reference = r.3.1.1.1.1.0; same = r.3.1.1.1.1.1.0; same_refs = r.3.1.1.1.1.1.1 })))
+    (λ a x now given r h untold. subst (λ (b : BatchInput g.row.N.Denot g.row.S.Denot). AreQuiet p.sources i.objects.now i.refs.now b.objects.now b.refs.now) r.4
+    (r.3.1.0 i.objects.now i.refs.now given (subst (λ (b : BatchInput g.row.N.Denot g.row.S.Denot). GoesOn id p.sources i.objects.now i.refs.now given b.parts b.objects.now b.refs.now) (sym r.2) h) untold))
     d a c.args.keeper.now c.load_kept_parts.new.keeper back c.load_kept_parts.result said.ended said.end said.adds said.calls said.wounded said.stops said.later said.input)
 
 pub returns-clause-same_reference : goal.returns-clause-same_reference
@@ -66,7 +68,7 @@ returns-clause-same_reference g c =
     (stands_first id p.sources i.objects.now i.refs.now i.parts c.requires)
     (λ a x now r. subst (λ (b : BatchInput g.row.N.Denot g.row.S.Denot). KeepsBoth p.sources (λ y. y.objects.now) (λ y. y.refs.now) (λ y. y.objects.ghost_name) (λ y. y.refs.ghost_name) b now) r.2
     (subst (λ (b : BatchInput g.row.N.Denot g.row.S.Denot). KeepsBoth p.sources (λ y. y.objects.now) (λ y. y.refs.now) (λ y. y.objects.ghost_name) (λ y. y.refs.ghost_name) r.0.now b) r.4
-    (record { same_reference = r.3.1.1.0; same_refs_reference = r.3.1.1.1.0; same = r.3.1.1.1.1.0; same_refs = r.3.1.1.1.1.1 })))
+    (record { same_reference = r.3.1.1.1.0; same_refs_reference = r.3.1.1.1.1.0; same = r.3.1.1.1.1.1.0; same_refs = r.3.1.1.1.1.1.1 })))
     c.load_kept_parts.new.input c.load_kept_parts.ensures.input).same_reference
 
 pub returns-clause-same_refs_reference : goal.returns-clause-same_refs_reference
@@ -80,5 +82,5 @@ returns-clause-same_refs_reference g c =
     (stands_first id p.sources i.objects.now i.refs.now i.parts c.requires)
     (λ a x now r. subst (λ (b : BatchInput g.row.N.Denot g.row.S.Denot). KeepsBoth p.sources (λ y. y.objects.now) (λ y. y.refs.now) (λ y. y.objects.ghost_name) (λ y. y.refs.ghost_name) b now) r.2
     (subst (λ (b : BatchInput g.row.N.Denot g.row.S.Denot). KeepsBoth p.sources (λ y. y.objects.now) (λ y. y.refs.now) (λ y. y.objects.ghost_name) (λ y. y.refs.ghost_name) r.0.now b) r.4
-    (record { same_reference = r.3.1.1.0; same_refs_reference = r.3.1.1.1.0; same = r.3.1.1.1.1.0; same_refs = r.3.1.1.1.1.1 })))
+    (record { same_reference = r.3.1.1.1.0; same_refs_reference = r.3.1.1.1.1.0; same = r.3.1.1.1.1.1.0; same_refs = r.3.1.1.1.1.1.1 })))
     c.load_kept_parts.new.input c.load_kept_parts.ensures.input).same_refs_reference

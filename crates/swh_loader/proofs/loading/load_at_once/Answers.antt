@@ -1,10 +1,12 @@
-use Rattle.std.proofs.Common.{Result, sym, subst}
+use Rattle.std.proofs.Common.{◌≡◌, Result, sym, subst}
 use Rattle.swh_outside.specs.Views.{disks, sources}
 use Rattle.swh_walk.specs.Owning.{attempt}
 use Rattle.swh_walk.specs.declared.end.LoadFault.{LoadFault}
+use Rattle.swh_walk.specs.declared.input.Input.TheVariants as given
 use Rattle.swh_inputs.specs.Opening.{kind_of}
-use Rattle.swh_inputs.specs.Parts.{IsSameInput, folders, parts}
+use Rattle.swh_inputs.specs.Parts.{IsQuiet, IsSameInput, folders, parts}
 use Rattle.swh_inputs.specs.Reading.{IsRead}
+use Rattle.swh_inputs.specs.declared.bad.InputFault.TheVariants.{ReadFault}
 use Rattle.swh_inputs.specs.declared.input.Input.{Input}
 use Rattle.swh_loader.specs.declared.end.Loaded.{Loaded}
 use Rattle.swh_loader.specs.Leaving.{IsLoadOf}
@@ -24,7 +26,8 @@ returns-clause-load g c =
     (once_load id p _
     (λ i now x r. subst (λ (b : Input g.row.S.Denot g.row.F.Denot). IsRead id p b now x) r.2 (subst (λ (b : Input g.row.S.Denot g.row.F.Denot). IsRead id p r.0.now b x) r.4 r.3.0))
     (λ i now x r. r.3.1.0)
-    (λ i now x r. subst (λ (b : Input g.row.S.Denot g.row.F.Denot). IsSameInput p b now) r.2 (subst (λ (b : Input g.row.S.Denot g.row.F.Denot). IsSameInput p r.0.now b) r.4 r.3.1.1))
+    (λ i now x r. subst (λ (b : Input g.row.S.Denot g.row.F.Denot). IsSameInput p b now) r.2 (subst (λ (b : Input g.row.S.Denot g.row.F.Denot). IsSameInput p r.0.now b) r.4 r.3.1.1.0))
+    (λ i now x r untold. subst (λ (b : Input g.row.S.Denot g.row.F.Denot). IsQuiet p b now) r.2 (subst (λ (b : Input g.row.S.Denot g.row.F.Denot). IsQuiet p r.0.now b) r.4 (r.3.1.1.1 (λ e. untold (let same : x ≡ given.Bad ReadFault = cc in same)))))
     d a i now c.args.keeper.now c.load_kept.new.keeper c.load_kept.result
     (rw c.kind.ensures at said.ended) (rw c.opening.ensures at said.end) (rw (c.opening.ensures, c.kind.ensures) at said.adds) (λ told. rw (c.opening.ensures, c.kind.ensures) at said.calls told) said.wounded
     (rw (c.opening.ensures, c.kind.ensures) at said.stops) said.later (rw c.opening.ensures at said.input))
