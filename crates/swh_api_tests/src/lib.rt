@@ -17,4 +17,6 @@ mod logs;
 #[cfg(test)]
 mod requests;
 #[cfg(test)]
+mod wide;
+#[cfg(test)]
 mod wire;
