@@ -47,11 +47,11 @@ def write_batch(batch, refs):
 
 
 def load(program, archive, jobs):
-    """The seconds that a load took, and the most bytes that it held."""
-    took, peak, status, said = launch(program, "load", archive, jobs)
-    if status or b"\tfull\t" not in said:
-        sys.exit("not full: %r" % said[:200])
-    return took, peak
+    """A load of the batch."""
+    ran = launch(program, "load", archive, jobs)
+    if ran.status or b"\tfull\t" not in ran.said:
+        sys.exit("not full: %r" % ran.said[:200])
+    return ran
 
 
 def main():
@@ -66,8 +66,8 @@ def main():
         first = load(program, archive, jobs)
         again = load(program, archive, jobs)
         print("%d MB: loaded in %.2f s with a peak of %d MB, again in %.2f s with %d MB" % (
-            os.path.getsize(batch) // MEGABYTE, first[0], first[1] // MEGABYTE, again[0], again[1] // MEGABYTE))
-        verdict.at_most("the second visit by a batch, times the memory of the first", again[1] / first[1], MOST_TIMES)
+            os.path.getsize(batch) // MEGABYTE, first.seconds, first.peak // MEGABYTE, again.seconds, again.peak // MEGABYTE))
+        verdict.at_most("the second visit by a batch, times the memory of the first", again.peak / first.peak, MOST_TIMES)
     verdict.end()
 
 

@@ -5,8 +5,8 @@
 
 What stands below a command is compared with what it prints, digits of dates apart; a command below which nothing stands has to
 end with status 0. All commands of a document go through one shell, for which `swharc` is the built program, and git's person and
-dates are fixed; its /tmp is a new one (`unshare`), so that the paths are those of the documents. The first run builds the program
-and is left out, and so is what wants a tool that is not there.
+dates are fixed; its /tmp is a new one (`unshare`), so that the paths are those of the documents. The first run and the
+gate are left out, and so is what wants a tool that is not there.
 """
 import os
 import re
@@ -22,7 +22,8 @@ PERSON = {"GIT_AUTHOR_NAME": "A", "GIT_AUTHOR_EMAIL": "a@e.org", "GIT_COMMITTER_
           "GIT_AUTHOR_DATE": "1000000000 +0000", "GIT_COMMITTER_DATE": "1000000000 +0000", "GIT_CONFIG_GLOBAL": os.devnull,
           "GIT_CONFIG_COUNT": "0"}
 DOCUMENTS = ("README.md", "docs/USE.md")
-LEFT_OUT = {"examples/first-run": None, "fossil": "fossil"}
+# What builds or proves the program, and what wants a tool that is not there.
+BUILDS, TOOLS = ("examples/first-run", "rt ci"), ("fossil",)
 END = "end of a command"
 INSIDE = "--inside"
 
@@ -43,11 +44,7 @@ def examples_of(document):
 
 
 def is_left_out(command):
-    """Whether a command builds the program, or wants a tool that is not there."""
-    for word, tool in LEFT_OUT.items():
-        if word in command.split() and (tool is None or shutil.which(tool) is None):
-            return True
-    return False
+    return command in BUILDS or any(tool in command.split() and shutil.which(tool) is None for tool in TOOLS)
 
 
 def run_all(examples):

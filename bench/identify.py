@@ -5,16 +5,16 @@
     python3 bench/identify.py [PROGRAM]
 
 The program may take at most twice as long as sha1sum in the same run, and hold less than one and a half times the file
-in memory. Both are run in turn, and the shortest time of each counts. Of a folder it may hold no more than 64 MB beside the
-largest file: the ids of its files are kept, and not their bytes. The program is the built one, outside the gate.
+in memory. Both are run in turn, and the median of each one's times counts, which are the processor's. Of a folder it may hold no
+more than 64 MB beside the largest file: the ids of its files are kept, and not their bytes. The program is the built one, outside
+the gate.
 """
 import hashlib
 import os
-import subprocess
 import sys
 import tempfile
-import time
 
+from launched import launch_well, median_seconds, rounds_of
 from program import find_program
 from verdict import Verdict
 
@@ -27,17 +27,11 @@ PIECE_BYTES = 1_048_576
 MOST_BESIDE_FILE = 64_000_000
 
 
-def run(command):
-    """How many seconds a command took, how many bytes it held at most, and what it printed."""
-    begun = time.monotonic()
-    with subprocess.Popen(command, stdout=subprocess.PIPE) as child:
-        printed = child.stdout.read()
-        _, status, used = os.wait4(child.pid, 0)
-        child.returncode = os.waitstatus_to_exitcode(status)
-    took = time.monotonic() - begun
-    if child.returncode != 0:
-        sys.exit("%s: status %d, %r" % (command[0], child.returncode, printed))
-    return took, used.ru_maxrss * 1024, printed
+def identify(program, kind, path, expected):
+    ran = launch_well(program, "identify", kind, path)
+    if ran.said != expected:
+        sys.exit("printed %r, not %r" % (ran.said, expected))
+    return ran
 
 
 def make_file(path):
@@ -65,34 +59,17 @@ def make_folder(path):
     return b"swh:1:dir:%s\n" % name.hexdigest().encode()
 
 
-def peak_of_folder(program):
-    """How many bytes the naming of a folder held at most."""
-    with tempfile.TemporaryDirectory() as folder:
-        path = os.path.join(folder, "folder")
-        expected = make_folder(path)
-        _, held, printed = run([program, "identify", "dir", path])
-        if printed != expected:
-            sys.exit("printed %r, not %r" % (printed, expected))
-        return held
-
-
 def main():
     program = find_program()
-    ours, theirs, peak = [], [], 0
-    with tempfile.TemporaryDirectory() as folder:
-        path = os.path.join(folder, "file")
+    with tempfile.TemporaryDirectory() as room:
+        path, folder = os.path.join(room, "file"), os.path.join(room, "folder")
         expected = make_file(path)
-        for _ in range(ROUNDS):
-            took, held, printed = run([program, "identify", "cnt", path])
-            if printed != expected:
-                sys.exit("printed %r, not %r" % (printed, expected))
-            ours.append(took)
-            peak = max(peak, held)
-            theirs.append(run(["sha1sum", path])[0])
-    beside = peak_of_folder(program) - PIECE_BYTES
-    print("swharc %.3f s, sha1sum %.3f s; peak %d bytes" % (min(ours), min(theirs), peak))
+        ours, theirs = rounds_of(ROUNDS, lambda: identify(program, "cnt", path, expected), lambda: launch_well("sha1sum", path))
+        beside = identify(program, "dir", folder, make_folder(folder)).peak - PIECE_BYTES
+    peak = max(ran.peak for ran in ours)
+    print("swharc %.3f s, sha1sum %.3f s; peak %d bytes" % (median_seconds(ours), median_seconds(theirs), peak))
     verdict = Verdict()
-    verdict.at_most("naming a file, times of sha1sum", min(ours) / min(theirs), MOST_TIMES)
+    verdict.at_most("naming a file, times of sha1sum", median_seconds(ours) / median_seconds(theirs), MOST_TIMES)
     verdict.below("its peak, times the file", peak / FILE_BYTES, MOST_MEMORY)
     verdict.at_most("peak of a folder beside its largest file, in MB", beside / 1e6, MOST_BESIDE_FILE / 1e6)
     verdict.end()
