@@ -4,10 +4,11 @@
     docs/tables.py             writes both tables between their markers
     docs/tables.py --check     writes nothing, and ends with 1 where a table is not what would be written
 
-Both name the listed definitions that have no comment above them.
+Both name the listed definitions that have no comment above them, and end with 1 where a crate stands in crates.txt
+before one on which it stands: its layers have a comment as their head, and go from the lowest to the highest.
 
-MAP has a row for each crate: the libraries that crates.txt says it stands on, and what the crate's first doc comment
-says that callers may rely on. DEFINITIONS lists, for each crate, the definitions of its specs/ that other crates cite,
+MAP has a table for each layer, with a row for each crate: the libraries that crates.txt says it stands on, and what the
+crate's first doc comment says that callers may rely on. DEFINITIONS lists, for each crate, the definitions of its specs/ that other crates cite,
 in contracts or in definitions of their own, and all of the crate that has `run` and of those with its parts that print
 and that name: each with its file and the comment above it.
 """
@@ -27,26 +28,26 @@ TOP_CALL = re.compile(r"^pub fn (run|tell|identify)\b", re.MULTILINE)
 
 
 def stands_on():
-    """The crates of crates.txt, each with the libraries that stand on its line, in their order."""
-    crates = {}
-    for line in (ROOT / "crates.txt").read_text().splitlines():
-        line = line.split("#")[0].strip()
-        if line:
-            name, libraries = line.split(":")
-            crates[name.split()[0]] = libraries.split()
-    return crates
+    """The crates of crates.txt, in its order, each with the libraries that stand on its line, in their order."""
+    return {name: libraries for _, crates in layers() for name, libraries in crates.items()}
 
 
-def in_layers(crates):
-    """The names of the crates, lowest first: a crate's layer is one above the highest that it stands on."""
-    layers = {}
+def layers():
+    """The layers of crates.txt: the comment at the head of each, and its crates with their libraries."""
+    found = []
+    for line in (ROOT / "crates.txt").read_text().splitlines()[1:]:
+        if line.startswith("# "):
+            found.append((line[2:], {}))
+        elif line.split("#")[0].strip():
+            name, libraries = line.split("#")[0].split(":")
+            found[-1][1][name.split()[0]] = libraries.split()
+    return found
 
-    def layer(name):
-        if name not in layers:
-            layers[name] = 1 + max((layer(below) for below in crates[name] if below in crates), default=0)
-        return layers[name]
 
-    return sorted(crates, key=lambda name: (layer(name), name))
+def out_of_order(crates):
+    """The crates that stand in crates.txt before one on which they stand."""
+    place = {name: index for index, name in enumerate(crates)}
+    return [(name, low) for name in crates for low in crates[name] if place.get(low, -1) > place[name]]
 
 
 def doc_comment(crate):
@@ -75,11 +76,13 @@ def cell(text):
 
 
 def map_rows(crates):
-    rows = ["| Crate | Stands on | What callers may rely on |", "|---|---|---|"]
-    for crate in in_layers(crates):
-        below = ", ".join(f"`{name}`" for name in crates[crate])
-        rows.append(f"| `{crate}` | {below} | {cell(relied_on(crate))} |")
-    return rows
+    rows = []
+    for head, names in layers():
+        rows += ["", f"### {head[:1].upper() + head[1:]}", "", "| Crate | Stands on | What callers may rely on |", "|---|---|---|"]
+        for crate in names:
+            below = ", ".join(f"`{name}`" for name in crates[crate])
+            rows.append(f"| `{crate}` | {below} | {cell(relied_on(crate))} |")
+    return rows[1:]
 
 
 def comment_above(lines, index):
@@ -135,7 +138,7 @@ def definition_rows(crates):
     """The tables of the definitions, and those of them that have no comment."""
     names = cited(crates)
     rows, bare = [], []
-    for crate in in_layers(crates):
+    for crate in crates:
         comments, owners = definitions(crate)
         whole = has_top_call(crate)
         wanted = {(file, owners.get((file, name), name)) for owner, file, name in names if owner == crate}
@@ -164,6 +167,9 @@ def main():
     crates = stands_on()
     listed, bare = definition_rows(crates)
     differ = False
+    for name, low in out_of_order(crates):
+        differ = True
+        print(f"crates.txt: {name} stands before {low}, on which it stands")
     for name, rows in (("MAP.md", map_rows(crates)), ("DEFINITIONS.md", listed)):
         path = ROOT / "docs" / name
         old = path.read_text()

@@ -9,10 +9,10 @@ use Rattle.swh_model.specs.Archive.{Archive, Bodies}
 use Rattle.swh_model.specs.declared.event.Event.{Event}
 use Rattle.swh_model.specs.Step.{IsHistory, replay}
 use Rattle.swh_fastcook.specs.Cook.{IsHeadOf}
-use Rattle.swh_fastback.proofs.Reached.{reached_back}
-use Rattle.swh_answer.specs.Shape.{Shape, Cook}
-use Rattle.swh_answer.proofs.Shapes.{one_shape}
-use Rattle.swh_answer.proofs.Unique.{one_core}
+use Rattle.swh_roundtrip.proofs.Reached.{reached_back}
+use Rattle.swh_replies.specs.Shape.{Shape, Cook}
+use Rattle.swh_replies.proofs.Shapes.{one_shape}
+use Rattle.swh_replies.proofs.Unique.{one_core}
 use Rattle.swh_api.specs.Answer.{IsReplyTo, IsAnswer}
 use Rattle.swh_api.specs.Carried.{AsksCook, IsCarriedName, HasCookedText, HasStreamAgain}
 use Rattle.swh_api.specs.Cook.{CookAnswer, Cooked, Missing, Uncarried, IsCookAnswer, SpellsCooked, cook_reply, TellsCook, IsCookReply}

@@ -18,8 +18,8 @@ use Rattle.swh_fastcook.specs.Ready.{IsReady, ExplainsNotReady}
 use Rattle.swh_fastcook.specs.Stream.{IsStreamOf, IsStreamText}
 use Rattle.swh_fastcook.proofs.Cooked.{missing_first, content_carried, content_text, ready_carried, stream_text}
 use Rattle.swh_fastcook.proofs.StreamTexts.{one_stream}
-use Rattle.swh_answer.specs.Answers.{SpellsCore, plain_reply}
-use Rattle.swh_answer.proofs.Unique.{one_core}
+use Rattle.swh_replies.specs.Answers.{SpellsCore, plain_reply}
+use Rattle.swh_replies.proofs.Unique.{one_core}
 use Rattle.swh_api.specs.Carried.{IsCarriedName, HasCookedText}
 use Rattle.swh_api.specs.Cook.{CookAnswer, Cooked, Missing, Uncarried, IsCookedTo, AnswersCook, IsCookAnswer, RefusesCook, cook_reply, TellsCook, IsCookFaultReply, SpellsCooked, NoCooked, IsCookReply}
 

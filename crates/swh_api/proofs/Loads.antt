@@ -1,11 +1,11 @@
 -- Which paths are those of loads.
 use Rattle.std.proofs.Common.{◌≡◌, ◌≢◌, ℕ, Bor, List, refl, ap, ◌∙◌, subst}
 use Rattle.swh_base.specs.declared.request.Request.{Request}
-use Rattle.swh_answer.specs.declared.asked.Asked.{Asked}
-use Rattle.swh_answer.specs.declared.asked.Asked.TheVariants as asked
-use Rattle.swh_answer.specs.Shape.{Shape, Load, Spells, shape_of}
-use Rattle.swh_answer.specs.Answers.{NoUrl}
-use Rattle.swh_answer.proofs.Shapes.{one_shape}
+use Rattle.swh_replies.specs.declared.asked.Asked.{Asked}
+use Rattle.swh_replies.specs.declared.asked.Asked.TheVariants as asked
+use Rattle.swh_replies.specs.Shape.{Shape, Load, Spells, shape_of}
+use Rattle.swh_replies.specs.Answers.{NoUrl}
+use Rattle.swh_replies.proofs.Shapes.{one_shape}
 use Rattle.swh_api.specs.Answer.{method_of}
 use Rattle.swh_api.specs.Route.{AsksNoLoad}
 

@@ -13,8 +13,8 @@ use Rattle.swh_graph.specs.Holding.{IsNotHeld}
 use Rattle.swh_graph.specs.Resolve.{IsResolveAnswer}
 use Rattle.swh_graph.specs.declared.fault.GraphFault.{GraphFault}
 use Rattle.swh_graph.specs.declared.fault.GraphFault.TheVariants as fault
-use Rattle.swh_answer.specs.Json.{resolved_data, tree_reply}
-use Rattle.swh_answer.specs.Answers.{SpellsId}
+use Rattle.swh_replies.specs.Json.{resolved_data, tree_reply}
+use Rattle.swh_replies.specs.Answers.{SpellsId}
 use Rattle.swh_api.specs.Answer.{IsRead, TellsAnswer, IsIdReply, IsResolveReply}
 use Rattle.swh_api.specs.Fault.{IsFaultReply}
 

@@ -26,10 +26,10 @@ use Rattle.swh_graph.specs.Resolve.{IsResolveAnswer}
 use Rattle.swh_graph.proofs.OneLog.{one_log_lem}
 use Rattle.swh_graph.proofs.OnePath.{one_path_lem}
 use Rattle.swh_graph.proofs.OneResolution.{one_resolution_lem}
-use Rattle.swh_answer.specs.Shape.{Shape, Known, Visits, Origin, Revision, Log, Release, Directory, DirectoryEntry as Entry, Snapshot, Content, Resolve, Raw, Cook, Load}
-use Rattle.swh_answer.specs.Json.{visits_data, origin_data, revision_data, log_data, release_data, entry_data, directory_data, snapshot_data, resolved_data}
-use Rattle.swh_answer.proofs.Shapes.{one_shape}
-use Rattle.swh_answer.proofs.Unique.{one_id, one_core, one_origin_reply, one_content_reply, one_raw_reply, one_known_reply}
+use Rattle.swh_replies.specs.Shape.{Shape, Known, Visits, Origin, Revision, Log, Release, Directory, DirectoryEntry as Entry, Snapshot, Content, Resolve, Raw, Cook, Load}
+use Rattle.swh_replies.specs.Json.{visits_data, origin_data, revision_data, log_data, release_data, entry_data, directory_data, snapshot_data, resolved_data}
+use Rattle.swh_replies.proofs.Shapes.{one_shape}
+use Rattle.swh_replies.proofs.Unique.{one_id, one_core, one_origin_reply, one_content_reply, one_raw_reply, one_known_reply}
 use Rattle.swh_api.specs.Answer.{log_limit, IsRead, graph_reply, TellsAnswer, IsIdReply, IsResolveReply, IsShapeReply, IsReplyTo, IsAnswer}
 use Rattle.swh_api.specs.Cook.{TellsCook, IsCookReply}
 use Rattle.swh_api.specs.Get.{get_request, text_of, IsReplyToGet}

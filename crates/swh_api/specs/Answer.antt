@@ -15,9 +15,9 @@ use Rattle.swh_graph.specs.Holding.{HoldsDirectory, HoldsRevision, HoldsRelease,
 use Rattle.swh_graph.specs.Log.{IsLogAnswer}
 use Rattle.swh_graph.specs.Path.{IsPathAnswer}
 use Rattle.swh_graph.specs.Resolve.{IsResolveAnswer}
-use Rattle.swh_answer.specs.Shape.{Shape, Known, Visits, Origin, Revision, Log, Release, Directory, DirectoryEntry, Snapshot, Content, Resolve, Raw, Cook, Load, Spells}
-use Rattle.swh_answer.specs.Json.{visits_data, origin_data, revision_data, log_data, release_data, entry_data, directory_data, snapshot_data, resolved_data, no_path_data, tree_reply, error_reply}
-use Rattle.swh_answer.specs.Answers.{NoUrl, SpellsId, NoId, bad_text, not_found, not_held, IsOriginReply, IsContentReply, IsRawReply, IsKnownReply}
+use Rattle.swh_replies.specs.Shape.{Shape, Known, Visits, Origin, Revision, Log, Release, Directory, DirectoryEntry, Snapshot, Content, Resolve, Raw, Cook, Load, Spells}
+use Rattle.swh_replies.specs.Json.{visits_data, origin_data, revision_data, log_data, release_data, entry_data, directory_data, snapshot_data, resolved_data, no_path_data, tree_reply, error_reply}
+use Rattle.swh_replies.specs.Answers.{NoUrl, SpellsId, NoId, bad_text, not_found, not_held, IsOriginReply, IsContentReply, IsRawReply, IsKnownReply}
 use Rattle.swh_api.specs.Cook.{IsCookReply}
 
 -- ---- objects and the graph

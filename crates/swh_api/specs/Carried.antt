@@ -7,9 +7,9 @@ use Rattle.swh_base.specs.declared.request.Reply.{Reply}
 use Rattle.swh_model.specs.Archive.{Bodies, IsGraphOf}
 use Rattle.swh_postorder.specs.Postorder.{IsPostorder}
 use Rattle.swh_fastcook.specs.Cook.{IsCarriedStream, IsCookedText}
-use Rattle.swh_fastback.specs.LoadsBack.{LoadsBack}
-use Rattle.swh_answer.specs.Shape.{Cook, Spells}
-use Rattle.swh_answer.specs.Answers.{plain_reply}
+use Rattle.swh_roundtrip.specs.LoadsBack.{LoadsBack}
+use Rattle.swh_replies.specs.Shape.{Cook, Spells}
+use Rattle.swh_replies.specs.Answers.{plain_reply}
 use Rattle.swh_api.specs.Cook.{SpellsCooked}
 
 -- The request asks for this name to be cooked, which is no directory.

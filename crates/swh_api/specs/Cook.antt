@@ -11,8 +11,8 @@ use Rattle.swh_carried.specs.Words.{why_word}
 use Rattle.swh_carried.specs.declared.fault.CookFault.{CookFault}
 use Rattle.swh_carried.specs.declared.fault.CookFault.TheVariants.{NotHeld, WriteFault, Memory, Uncarried as IsNotCarried}
 use Rattle.swh_fastcook.specs.Cook.{IsCarriedStream, IsUncarriedStream, IsCookedText}
-use Rattle.swh_answer.specs.Json.{uncarried_data, tree_reply}
-use Rattle.swh_answer.specs.Answers.{SpellsCore, bad_text, not_held, plain_reply}
+use Rattle.swh_replies.specs.Json.{uncarried_data, tree_reply}
+use Rattle.swh_replies.specs.Answers.{SpellsCore, bad_text, not_held, plain_reply}
 
 -- the text of a name; or the first name that a walk enters and that is not held; or the first that a stream cannot carry, and why
 pub data CookAnswer : Type 0 where

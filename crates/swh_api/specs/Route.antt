@@ -1,8 +1,8 @@
 -- Which requests are loads.
 use Rattle.std.specs.Prelude.{◌≡◌, ℕ, List, codes}
 use Rattle.swh_base.specs.declared.request.Request.{Request}
-use Rattle.swh_answer.specs.Shape.{Load, Spells}
-use Rattle.swh_answer.specs.Answers.{SpellsUrl}
+use Rattle.swh_replies.specs.Shape.{Load, Spells}
+use Rattle.swh_replies.specs.Answers.{SpellsUrl}
 use Rattle.swh_api.specs.declared.wanted.Route.{Route}
 use Rattle.swh_api.specs.declared.wanted.Route.TheVariants as route
 

@@ -1,8 +1,8 @@
 // The answer to a request.
 ghost use Rattle.std.specs.Prelude.{◌≡◌, ◌↔◌, ℕ, List, IsTrue, IfOk};
-ghost use Rattle.swh_answer.specs.Answers.{NoUrl};
-ghost use Rattle.swh_answer.specs.Json.{error_reply};
-ghost use Rattle.swh_answer.specs.Shape.{Load, shape_of};
+ghost use Rattle.swh_replies.specs.Answers.{NoUrl};
+ghost use Rattle.swh_replies.specs.Json.{error_reply};
+ghost use Rattle.swh_replies.specs.Shape.{Load, shape_of};
 ghost use Rattle.swh_api.specs.Answer.{method_of, IsShapeReply, IsAnswer};
 ghost use Rattle.swh_api.specs.Route.{AsksNoLoad};
 
@@ -12,11 +12,11 @@ use crate::objects::{
     snapshot_reply,
 };
 use std::alloc::Global;
-use swh_answer::{
-    Asked, content_reply, known_reply, origin_reply, raw_reply, read_path, refusal, visits_reply,
-};
 use swh_base::{Memory, Reply, Request};
 use swh_model::Look;
+use swh_replies::{
+    Asked, content_reply, known_reply, origin_reply, raw_reply, read_path, refusal, visits_reply,
+};
 
 // The method that a path is asked by.
 fn method_of(asked: &Asked<'_>) -> &'static [u8]

@@ -14,11 +14,11 @@ ghost use Rattle.swh_api.specs.Cook.{
 
 use crate::collected::Collected;
 use std::alloc::Global;
-use swh_answer::{core_of, not_held, refusal, uncarried};
 use swh_base::{Kind, Memory, Name, Reply, Shared};
 use swh_carried::{CookFault, why_word};
 use swh_fastcook::{make_ready, write_stream};
 use swh_model::Look;
+use swh_replies::{core_of, not_held, refusal, uncarried};
 
 // The reply that tells why a name has no text. A text in memory is broken off for want of memory alone.
 fn cook_fault_reply(alloc: Global, fault: CookFault) -> Result<Reply, Memory>

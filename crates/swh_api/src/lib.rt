@@ -1,5 +1,5 @@
 //! The read API: which requests are loads, and the reply to every other request, over an archive that is looked at.
-//! Stands on `swh_base`, `swh_model`, `swh_swhid`, `swh_graph`, `swh_fastcook`, `swh_fastback` and `swh_answer`.
+//! Stands on `swh_base`, `swh_model`, `swh_swhid`, `swh_graph`, `swh_fastcook`, `swh_roundtrip` and `swh_replies`.
 //! Callers may rely on: a reply is the archive's answer to the request; and a stream that is answered loads back.
 #![tactic(auto)]
 

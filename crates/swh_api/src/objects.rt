@@ -7,21 +7,21 @@ ghost use Rattle.swh_graph.specs.Log.{IsLogAnswer};
 ghost use Rattle.swh_graph.specs.Path.{IsPathAnswer};
 ghost use Rattle.swh_swhid.specs.declared.swhid.Swhid.{Swhid as ASwhid};
 ghost use Rattle.swh_swhid.specs.Qualifier.{IsSwhid};
-ghost use Rattle.swh_answer.specs.Json.{revision_data, log_data, release_data, entry_data, directory_data, snapshot_data};
+ghost use Rattle.swh_replies.specs.Json.{revision_data, log_data, release_data, entry_data, directory_data, snapshot_data};
 ghost use Rattle.swh_api.specs.Answer.{log_limit, IsRead, IsIdReply, IsResolveReply};
 ghost use Rattle.swh_api.specs.Fault.{IsFaultReply};
 
 use percent_encoding::percent_decode;
 use std::alloc::Global;
-use swh_answer::{
-    branches_reply, entries_reply, entry_value, id_of, json_reply, log_value, no_path, not_held,
-    refusal, release_value, resolved_value, revision_value,
-};
 use swh_base::{Kind, Memory, Reply};
 use swh_graph::{
     GraphFault, at_path, directory_at, log, release_at, resolve, revision_at, snapshot_at,
 };
 use swh_model::Look;
+use swh_replies::{
+    branches_reply, entries_reply, entry_value, id_of, json_reply, log_value, no_path, not_held,
+    refusal, release_value, resolved_value, revision_value,
+};
 use swh_swhid::{Swhid, SwhidFault, parse};
 
 /// How many revisions of a log are told.

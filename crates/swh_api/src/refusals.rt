@@ -1,11 +1,11 @@
 // The replies to requests that are refused before their paths are looked at.
 ghost use Rattle.std.specs.Prelude.{◌≡◌, IfOk};
-ghost use Rattle.swh_answer.specs.Json.{error_reply};
+ghost use Rattle.swh_replies.specs.Json.{error_reply};
 ghost use Rattle.swh_api.specs.Refusal.{refusal_word};
 
 use std::alloc::Global;
-use swh_answer::refusal;
 use swh_base::{Memory, Reply};
+use swh_replies::refusal;
 
 fn refusal_word(status: u16) -> &'static str
     ensures { result.now ≡ refusal_word status }

@@ -1,12 +1,12 @@
 // Which requests are loads.
 ghost use Rattle.std.specs.Prelude.{ℕ, List, IfOk, IfSome, IfNone};
-ghost use Rattle.swh_answer.specs.Shape.{Load, Spells};
+ghost use Rattle.swh_replies.specs.Shape.{Load, Spells};
 ghost use Rattle.swh_api.specs.Route.{IsRoute};
 
 use crate::wanted::Route;
 use std::alloc::Global;
-use swh_answer::{Asked, read_path, url_of};
 use swh_base::{Memory, Request};
+use swh_replies::{Asked, read_path, url_of};
 
 // The text in the place of the URL, where the path is one of a load.
 fn load_text(path: &[u8]) -> Option<&[u8]>

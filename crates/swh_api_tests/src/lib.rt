@@ -1,5 +1,6 @@
-//! Tests of the read API: which requests are loads, what each other is answered over an archive of objects that git named
-//! and of visits, what names are cooked to, what the refusals of a session are told, and all of these on the wire.
+//! Tests of the read API: which requests are loads, what each other is answered over an archive of objects that git
+//! named and of visits, what names are cooked to, what the refusals of a session are told, and all of these on the
+//! wire.
 //! Stands on the read API, on the HTTP session and on the objects that tests of reading share.
 //! Nothing stands above it.
 #![tactic(auto)]

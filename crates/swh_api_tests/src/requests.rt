@@ -1,4 +1,5 @@
-//! Which requests are loads, and the order in which others are refused: the path, its method, the texts in it, what is held.
+//! Which requests are loads, and the order in which others are refused: the path, its method, the texts in it, what is
+//! held.
 use crate::answered::{Answer, Case, first_other};
 use std::test::Fail;
 use swh_graph_fixtures::objects::VERSION_1;

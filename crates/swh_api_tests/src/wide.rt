@@ -1,5 +1,5 @@
-//! What is asked for with much to tell: it is told whole, where there is memory. Each reply is known by its length and by git's
-//! id of its bytes, as another program spelled and named them.
+//! What is asked for with much to tell: it is told whole, where there is memory. Each reply is known by its length and
+//! by git's id of its bytes, as another program spelled and named them.
 use std::alloc::{AllocError, Global};
 use std::test::Fail;
 use swh_api::{Route, reply, reply_to_get, route};

@@ -4,7 +4,7 @@ use Rattle.std.specs.List.{AllPass}
 use Rattle.swh_base.specs.Text.{IsPerson, is_person_byte, is_digit, named}
 use Rattle.swh_base.proofs.Lacks.{lacks}
 use Rattle.swh_base.proofs.Splits.{first_split, not_nil}
-use Rattle.swh_pieces.proofs.Middle.{in_middle}
+use Rattle.swh_base.proofs.Middle.{in_middle}
 use Rattle.swh_base.specs.Text.{IsNamed, IsZone, IsSeconds, IsDate}
 
 -- a date's parts are what stands before and after its space

@@ -1,9 +1,10 @@
 //! What the other crates share: names of artifacts by their bytes, the public grammars of their bodies, the texts and
-//! limits that several crates read and count against, graphs of names, the kinds and statuses of visits, requests and
-//! replies, and lists that contracts see as lists.
-//! Stands on `sha1`, `hex`, `itoa`, `percent_encoding` and `swh_pieces`.
+//! limits that several crates read and count against, bytes cut at the first of a byte or behind a word, graphs of
+//! names, the kinds and statuses of visits, requests and replies, and lists that contracts see as lists.
+//! Stands on `sha1`, `hex`, `itoa` and `percent_encoding`.
 //! Callers may rely on: an id is the namer's value of kind and body; a body names one list of children; what is closed
-//! in a graph stays closed as the graph grows.
+//! in a graph stays closed as the graph grows; the pieces of bytes joined are the bytes, and there are none exactly
+//! where the byte or the word is not there.
 #![tactic(auto)]
 
 mod bytes;
@@ -18,6 +19,7 @@ mod memory;
 mod name;
 mod namer;
 mod number;
+mod pieces;
 mod request;
 mod shared;
 mod text;
@@ -42,6 +44,7 @@ pub use memory::Memory;
 pub use name::{Name, is_lower_hex_digit};
 pub use namer::{ByteNamer, Namer, Sha1Namer};
 pub use number::number_of;
+pub use pieces::{behind, split_at_byte};
 pub use request::{Reply, Request};
 pub use shared::Shared;
 pub use text::{are_digits, is_digit, is_person, is_ref};

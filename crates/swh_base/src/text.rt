@@ -16,7 +16,7 @@ ghost use Rattle.swh_base.specs.Text.{
 };
 
 use crate::limits::REF_LIMIT;
-use swh_pieces::{behind, split_at_byte};
+use crate::pieces::{behind, split_at_byte};
 
 /// Whether a byte is a digit, `0` to `9`.
 pub fn is_digit(byte: u8) -> bool

@@ -5,7 +5,7 @@ use Rattle.std.proofs.lemmas.List.{append-nil, length-take}
 use Rattle.swh_base.specs.declared.visit.Which.TheVariants.{Stream}
 use Rattle.swh_base.specs.Limits.{body_limit, line_limit}
 use Rattle.swh_base.proofs.Splits.{first_split, sized_split}
-use Rattle.swh_pieces.proofs.Middle.{in_middle}
+use Rattle.swh_base.proofs.Middle.{in_middle}
 use Rattle.swh_outside.specs.Faults.{Rose}
 use Rattle.swh_fastlex.specs.Line.{Held, unread, Takes, IsLine, IsCutLine, IsLongLine}
 use Rattle.swh_batchread.specs.declared.fault.BatchFault.{BatchFault}

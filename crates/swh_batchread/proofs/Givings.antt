@@ -10,8 +10,8 @@ use Rattle.swh_outside.specs.Views.{Sources}
 use Rattle.swh_object.specs.Object.{IsObject}
 use Rattle.swh_model.specs.Meaning.{Made}
 use Rattle.swh_fastlex.specs.Line.{Held, unread, IsAtEnd}
-use Rattle.swh_made.specs.Making.{made, made_from}
-use Rattle.swh_made.proofs.Elements.{all_push}
+use Rattle.swh_dedup.specs.Making.{made, made_from}
+use Rattle.swh_dedup.proofs.Elements.{all_push}
 use Rattle.swh_batchread.specs.declared.fault.BatchFault.{BatchFault}
 use Rattle.swh_batchread.specs.declared.fault.BatchFault.TheVariants.{ReadFault}
 use Rattle.swh_fastlex.specs.ReadOn.{IsQuietBut}

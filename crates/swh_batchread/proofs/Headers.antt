@@ -14,7 +14,7 @@ use Rattle.swh_base.proofs.HexLines.{hex-injective}
 use Rattle.swh_base.proofs.Ids.{IsIdText-encode}
 use Rattle.swh_base.proofs.Splits.{first_split, absent}
 use Rattle.swh_fastlex.proofs.Windows.{none_joined}
-use Rattle.swh_pieces.proofs.Middle.{in_middle}
+use Rattle.swh_base.proofs.Middle.{in_middle}
 use Rattle.swh_batchread.specs.declared.header.Header.{Header}
 use Rattle.swh_batchread.specs.Batch.{IsHeader, header_line, header_text}
 

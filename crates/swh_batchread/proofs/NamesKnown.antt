@@ -1,9 +1,7 @@
 -- Names that are known, and what is named and is none of them.
 use Rattle.std.specs.Prelude.{is_some, IsSome, ◌↔◌}
 use Rattle.std.proofs.Common.{◌≡◌, ◌⊎◌, inl, inr, ℕ, zero, suc, ◌+◌, ◌<◌, Bool, true, false, cond, Option, Some, None, List, [], ◌∷◌, ◌++◌, length, get_or, take, drop, Contains, refl, sym, ap, ◌∙◌, subst, arith}
-use Rattle.std.specs.declared.cmp.Ordering.{Ordering}
-use Rattle.std.specs.declared.cmp.Ordering.TheVariants.{Less, Equal, Greater}
-use Rattle.std.specs.Ordering.{nat_cmp, is_eq, ordering_reverse}
+use Rattle.std.specs.Ordering.{nat_cmp, is_eq}
 use Rattle.std.specs.Cmp.Lexicographic.{slice_cmp, nat_list_cmp_total}
 use Rattle.std.specs.FinMap.{nat_cmp-IsAntisymmetric, slice_cmp-IsAntisymmetric}
 use Rattle.std.specs.List.{AllByRecursion}
@@ -12,9 +10,10 @@ use Rattle.std.proofs.lemmas.List.Concat.{flat_map-append}
 use Rattle.swh_base.specs.declared.entry.Entry.{Entry}
 use Rattle.swh_base.specs.declared.kind.Kind.{Kind}
 use Rattle.swh_base.specs.declared.name.Name.{Name}
+use Rattle.swh_base.proofs.Elementary.{equal_order, own_reverse}
 use Rattle.std.proofs.lemmas.List.{append-nil, map-append, take_more}
-use Rattle.swh_made.specs.Whole.{names_of, HasChildrenAmong}
-use Rattle.swh_made.proofs.Elements.{first_is, later_is}
+use Rattle.swh_dedup.specs.Whole.{names_of, HasChildrenAmong}
+use Rattle.swh_dedup.proofs.Elements.{first_is, later_is}
 use Rattle.swh_batchread.specs.declared.names.Known.{Known}
 use Rattle.swh_batchread.specs.declared.names.Names.{Names}
 use Rattle.swh_batchread.specs.Refs.{kind_at, HasId}
@@ -24,18 +23,8 @@ use Rattle.swh_batchread.proofs.RefsHeld.{push_iff, either_in}
 
 -- ## Ids that are one
 
-own_reverse : (o : Ordering) → o ≡ ordering_reverse o → o ≡ Equal
-own_reverse Less e = absurd (cc)
-own_reverse Equal e = refl
-own_reverse Greater e = absurd (cc)
-
 pub at_self : (id : List ℕ) → is_at (slice_cmp nat_cmp id) id ≡ true
 at_self id = ap is_eq (own_reverse (slice_cmp nat_cmp id id) (nat_list_cmp_total.antisymm id id))
-
-equal_order : (o : Ordering) → is_eq o ≡ true → o ≡ Equal
-equal_order Less e = absurd (cc)
-equal_order Equal e = refl
-equal_order Greater e = absurd (cc)
 
 pub same_id : (a b : List ℕ) → is_at (slice_cmp nat_cmp a) b ≡ true → a ≡ b
 same_id a b e = slice_cmp-IsAntisymmetric nat_cmp-IsAntisymmetric a b (equal_order (slice_cmp nat_cmp a b) e)

@@ -9,7 +9,7 @@ use Rattle.swh_base.proofs.Splits.{first_split, not_nil}
 use Rattle.std.proofs.lemmas.List.Elements.{Contains-append_right}
 use Rattle.swh_fastlex.specs.Line.{IsLine}
 use Rattle.swh_fastlex.proofs.Windows.{none_joined}
-use Rattle.swh_pieces.proofs.Middle.{in_middle}
+use Rattle.swh_base.proofs.Middle.{in_middle}
 use Rattle.swh_batchread.specs.Refs.{RefLine, ref_line, ref_text, IsRefLine}
 use Rattle.swh_batchread.specs.declared.ref_line.RefIn.{RefIn}
 use Rattle.swh_batchread.specs.RefSteps.{line_of, IsRefBefore, IsRefIn}

@@ -4,14 +4,15 @@ use Rattle.std.proofs.Common.{◌≡◌, ◌⊎◌, inl, inr, ℕ, ◌+◌, ◌<
 use Rattle.std.specs.Global.{Vec}
 use Rattle.std.specs.declared.cmp.Ordering.{Ordering}
 use Rattle.std.specs.declared.cmp.Ordering.TheVariants.{Less, Equal, Greater}
-use Rattle.std.specs.Ordering.{nat_cmp, is_eq, match_ordering, ordering_reverse}
+use Rattle.std.specs.Ordering.{nat_cmp, is_eq, match_ordering}
 use Rattle.std.specs.Cmp.Lexicographic.{slice_cmp, nat_list_cmp_total}
 use Rattle.std.specs.FinMap.{nat_cmp-IsAntisymmetric, slice_cmp-IsAntisymmetric}
 use Rattle.std.specs.Map.{lookup}
 use Rattle.std.specs.BTreeMap.{is_at, insert_entry}
 use Rattle.std.proofs.lemmas.List.{append-nil, map-append}
 use Rattle.std.proofs.lemmas.List.Elements.{filter-append, Contains-append_left, Contains-push, Contains-push_cases}
-use Rattle.swh_made.proofs.Elements.{first_or_later, first_is, later_is, none_is, contains_map, from_map}
+use Rattle.swh_base.proofs.Elementary.{own_reverse}
+use Rattle.swh_dedup.proofs.Elements.{first_or_later, first_is, later_is, none_is, contains_map, from_map}
 use Rattle.swh_batchread.specs.declared.refs.Refs.{Refs}
 use Rattle.swh_batchread.specs.Refs.{RefLine, ref_text, refs_limit, is_peeled, kept_refs, counted_refs, IsNewRef, IsRefLine}
 use Rattle.swh_batchread.specs.RefSteps.{line_at, HasNone, Holds, PutsRef, TakesLine}
@@ -82,11 +83,6 @@ found_in (x ∷ es) name h = by_order (found_in es name) (slice_cmp nat_cmp name
         let same = slice_cmp-IsAntisymmetric nat_cmp-IsAntisymmetric name x.0.items e in
         (x.1, subst (λ (n : List ℕ). Contains (map line_at (x ∷ es)) (made x.1 n)) (sym same) (first_is (line_at x) (map line_at es)))
     by_order more Greater e k = later (more k)
-
-own_reverse : (o : Ordering) → o ≡ ordering_reverse o → o ≡ Equal
-own_reverse Less e = absurd (cc)
-own_reverse Equal e = refl
-own_reverse Greater e = absurd (cc)
 
 same_self : (p : List ℕ) → slice_cmp nat_cmp p p ≡ Equal
 same_self p = own_reverse (slice_cmp nat_cmp p p) (nat_list_cmp_total.antisymm p p)

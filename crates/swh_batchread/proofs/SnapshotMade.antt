@@ -18,12 +18,13 @@ use Rattle.swh_base.specs.Manifest.{AreChildren, IsWellFormed}
 use Rattle.swh_base.specs.Name.{IsId}
 use Rattle.swh_base.specs.Snapshot.{SnapshotBranch, target_kind_word, BranchIsBefore, AreBranches, branch_text, snapshot_text, branch_child, snapshot_name}
 use Rattle.swh_base.proofs.Children.{one_list}
+use Rattle.swh_base.proofs.Elementary.{all_as}
 use Rattle.swh_object.specs.Object.{IsObject}
 use Rattle.swh_model.specs.Meaning.{Made}
-use Rattle.swh_made.specs.Making.{made_from, object_of}
-use Rattle.swh_made.specs.Whole.{names_of, HasChildrenAmong, HasAllThatIsReached}
-use Rattle.swh_made.specs.declared.objects.Objects.{Objects}
-use Rattle.swh_made.proofs.Elements.{first_or_later, first_is, later_is, none_is, all_from, all_push, all_as}
+use Rattle.swh_dedup.specs.Making.{made_from, object_of}
+use Rattle.swh_dedup.specs.Whole.{names_of, HasChildrenAmong, HasAllThatIsReached}
+use Rattle.swh_dedup.specs.declared.objects.Objects.{Objects}
+use Rattle.swh_dedup.proofs.Elements.{first_or_later, first_is, later_is, none_is, all_from, all_push}
 use Rattle.std.proofs.lemmas.List.{map-append}
 use Rattle.std.proofs.lemmas.List.Concat.{flat_map-append}
 use Rattle.std.proofs.lemmas.List.Elements.{Contains-append_left, Contains-push, filter_map-append}

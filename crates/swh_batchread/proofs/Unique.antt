@@ -13,7 +13,7 @@ use Rattle.swh_base.proofs.ItemTexts.{one_items, same_front}
 use Rattle.swh_base.proofs.Splits.{first_split, sized_split, not_nil}
 use Rattle.swh_model.specs.Meaning.{Made}
 use Rattle.swh_fastlex.specs.Line.{IsLine}
-use Rattle.swh_pieces.proofs.Middle.{in_middle}
+use Rattle.swh_base.proofs.Middle.{in_middle}
 use Rattle.swh_batchread.specs.declared.fault.BatchFault.{BatchFault}
 use Rattle.swh_batchread.specs.declared.fault.BatchFault.TheVariants.{BadBatch, WrongName, BadRefs, NoObject, Limit, ReadFault, Memory}
 use Rattle.swh_batchread.specs.declared.header.Header.{Header}

@@ -13,11 +13,11 @@ use Rattle.swh_base.specs.Limits.{line_limit}
 use Rattle.swh_base.specs.Snapshot.{SnapshotBranch, BranchIsBefore, AreBranches, snapshot_text}
 use Rattle.swh_base.proofs.ItemTexts.{same_front}
 use Rattle.swh_fastlex.specs.Line.{IsLine}
-use Rattle.swh_pieces.proofs.Middle.{in_middle}
+use Rattle.swh_base.proofs.Middle.{in_middle}
 use Rattle.swh_model.specs.Meaning.{Made}
-use Rattle.swh_made.specs.Making.{made_from, made, object_of}
-use Rattle.swh_made.specs.Whole.{names_of, HasChildrenAmong}
-use Rattle.swh_made.proofs.Elements.{first_or_later, first_is, later_is, none_is, each_is}
+use Rattle.swh_dedup.specs.Making.{made_from, made, object_of}
+use Rattle.swh_dedup.specs.Whole.{names_of, HasChildrenAmong}
+use Rattle.swh_dedup.proofs.Elements.{first_or_later, first_is, later_is, none_is, each_is}
 use Rattle.swh_batchread.specs.declared.fault.BatchFault.{BatchFault}
 use Rattle.swh_batchread.specs.declared.fault.BatchFault.TheVariants.{BadBatch, WrongName, BadRefs, NoObject, Limit, ReadFault, Memory}
 use Rattle.swh_batchread.specs.Batch.{input_limit}

@@ -7,8 +7,8 @@ use Rattle.swh_outside.specs.Views.{Sources}
 use Rattle.swh_model.specs.Meaning.{Made}
 use Rattle.swh_object.specs.Object.{IsObject}
 use Rattle.swh_fastlex.specs.Line.{Held}
-use Rattle.swh_made.specs.Making.{made}
-use Rattle.swh_made.specs.declared.objects.Objects.{Objects}
+use Rattle.swh_dedup.specs.Making.{made}
+use Rattle.swh_dedup.specs.declared.objects.Objects.{Objects}
 use Rattle.swh_batchread.specs.declared.fault.BatchFault.{BatchFault}
 use Rattle.swh_batchread.specs.declared.fault.BatchFault.TheVariants.{ReadFault}
 use Rattle.swh_batchread.specs.declared.giving.BatchPart.{BatchPart}

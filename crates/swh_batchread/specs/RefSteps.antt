@@ -14,7 +14,7 @@ use Rattle.swh_base.specs.declared.visit.Which.TheVariants.{Body, Stream, Line}
 use Rattle.swh_base.specs.Limits.{body_limit, line_limit}
 use Rattle.swh_base.specs.Name.{IsId}
 use Rattle.swh_base.specs.Snapshot.{snapshot_name}
-use Rattle.swh_made.specs.Whole.{names_of, AreWhole}
+use Rattle.swh_dedup.specs.Whole.{names_of, AreWhole}
 use Rattle.swh_fastlex.specs.Line.{Held, unread}
 use Rattle.swh_fastlex.specs.declared.fault.LineFault.{LineFault}
 use Rattle.swh_fastlex.specs.declared.fault.LineFault.TheVariants.{Failed, End, Limit as Long, Memory as NoRoom}

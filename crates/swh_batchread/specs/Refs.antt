@@ -15,8 +15,8 @@ use Rattle.swh_base.specs.Limits.{body_limit, line_limit}
 use Rattle.swh_base.specs.Name.{IsId}
 use Rattle.swh_base.specs.Snapshot.{SnapshotBranch, AreBranches, snapshot_name, snapshot_text}
 use Rattle.swh_base.specs.Snapshot.BranchTarget.{ToObject}
-use Rattle.swh_made.specs.Making.{made_from, object_of}
-use Rattle.swh_made.specs.Whole.{names_of, HasChildrenAmong}
+use Rattle.swh_dedup.specs.Making.{made_from, object_of}
+use Rattle.swh_dedup.specs.Whole.{names_of, HasChildrenAmong}
 use Rattle.swh_batchread.specs.declared.limits.TheConstants.{REFS_LIMIT}
 use Rattle.swh_batchread.specs.Batch.{input_limit}
 

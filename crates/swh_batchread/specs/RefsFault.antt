@@ -9,8 +9,8 @@ use Rattle.swh_base.specs.Limits.{body_limit, line_limit}
 use Rattle.swh_base.specs.Snapshot.{SnapshotBranch, snapshot_text}
 use Rattle.swh_outside.specs.Views.{Sources}
 use Rattle.swh_fastlex.specs.Line.{IsLine}
-use Rattle.swh_made.specs.Whole.{names_of}
-use Rattle.swh_made.specs.declared.objects.Objects.{Objects}
+use Rattle.swh_dedup.specs.Whole.{names_of}
+use Rattle.swh_dedup.specs.declared.objects.Objects.{Objects}
 use Rattle.swh_batchread.specs.declared.fault.BatchFault.{BatchFault}
 use Rattle.swh_batchread.specs.declared.fault.BatchFault.TheVariants.{BadBatch, WrongName, BadRefs, NoObject, Limit, ReadFault, Memory}
 use Rattle.swh_batchread.specs.Batch.{input_limit}

@@ -4,7 +4,7 @@ ghost use Rattle.std.specs.List.{AllByRecursion};
 ghost use Rattle.swh_base.specs.declared.entry.Entry.{Entry};
 ghost use Rattle.swh_object.specs.Object.{IsObject};
 ghost use Rattle.swh_outside.specs.Views.{sources};
-ghost use Rattle.swh_made.specs.Making.{made, made_from};
+ghost use Rattle.swh_dedup.specs.Making.{made, made_from};
 ghost use Rattle.swh_fastlex.specs.ReadOn.{IsReadOn};
 ghost use Rattle.swh_batchread.specs.declared.fault.BatchFault.TheVariants.{ReadFault as NotRead};
 ghost use Rattle.swh_batchread.specs.Giving.{BreaksOff, GivesNext, GoesOn, HasGiven, IfMore, IsAtStart, IsPart};
@@ -20,8 +20,8 @@ use crate::snapshot::read_snapshot;
 use std::alloc::Global;
 use std::marker::Model;
 use swh_base::{Memory, Name, Namer, Shared};
+use swh_dedup::{Novelty, Objects, Seen};
 use swh_fastlex::Window;
-use swh_made::{Novelty, Objects, Seen};
 use swh_object::Object;
 use swh_outside::Source;
 

@@ -7,8 +7,7 @@ ghost use Rattle.swh_batchread.specs.declared.header.Header.{Header as AnyHeader
 ghost use Rattle.swh_batchread.specs.Batch.{IsHeader, header_line};
 
 use itoa::Buffer;
-use swh_base::{Kind, Name};
-use swh_pieces::split_at_byte;
+use swh_base::{Kind, Name, split_at_byte};
 
 /// What the line before a body says: the id, the kind and how many bytes the body has.
 #[derive(Clone, Copy, Debug)]

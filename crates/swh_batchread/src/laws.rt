@@ -5,7 +5,7 @@ ghost use Rattle.swh_base.specs.declared.kind.Kind.{Kind};
 ghost use Rattle.swh_model.specs.Meaning.{Made};
 ghost use Rattle.swh_batchread.specs.Batch.{input_limit, MeansObjects};
 ghost use Rattle.swh_batchread.specs.BatchFault.{BreaksBatch};
-ghost use Rattle.swh_made.specs.Making.{made};
+ghost use Rattle.swh_dedup.specs.Making.{made};
 ghost use Rattle.swh_batchread.specs.Refs.{refs_limit, MeansRefs};
 ghost use Rattle.swh_batchread.specs.RefsFault.{BreaksRefs};
 ghost use Rattle.swh_batchread.specs.declared.fault.BatchFault.{BatchFault as Fault};

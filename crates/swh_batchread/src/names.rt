@@ -4,7 +4,7 @@ ghost use Rattle.std.specs.List.{AllByRecursion};
 ghost use Rattle.swh_base.specs.declared.entry.Entry.{Entry};
 ghost use Rattle.swh_base.specs.declared.name.Name.{Name as AnyName};
 ghost use Rattle.swh_object.specs.Object.{IsObject};
-ghost use Rattle.swh_made.specs.Whole.{names_of, HasChildrenAmong};
+ghost use Rattle.swh_dedup.specs.Whole.{names_of, HasChildrenAmong};
 ghost use Rattle.swh_batchread.specs.declared.fault.BatchFault.TheVariants.{ReadFault as NotRead};
 ghost use Rattle.swh_batchread.specs.Failing.{Fails};
 ghost use Rattle.swh_batchread.specs.RefSteps.{LeadsFirst, KnowsNames, KnowsObjects, knowing, HasIdIn, LacksIn, LacksSome};

@@ -5,7 +5,7 @@ ghost use Rattle.swh_base.specs.Limits.{body_limit};
 ghost use Rattle.swh_outside.specs.Views.{sources};
 ghost use Rattle.swh_object.specs.Object.{IsObject};
 ghost use Rattle.swh_fastlex.specs.Line.{unread, IsAtEnd};
-ghost use Rattle.swh_made.specs.Making.{made_from, made};
+ghost use Rattle.swh_dedup.specs.Making.{made_from, made};
 ghost use Rattle.swh_fastlex.specs.ReadOn.{IsReadOn};
 ghost use Rattle.swh_batchread.specs.declared.fault.BatchFault.TheVariants.{ReadFault as NotRead};
 ghost use Rattle.swh_batchread.specs.BatchFault.{
@@ -26,8 +26,8 @@ use crate::limits::INPUT_LIMIT;
 use crate::parts::{next_body, next_header};
 use std::alloc::Global;
 use swh_base::{Memory, Namer};
+use swh_dedup::{Novelty, Seen};
 use swh_fastlex::Window;
-use swh_made::{Novelty, Seen};
 use swh_object::{Object, ObjectFault};
 use swh_outside::Source;
 

@@ -5,8 +5,7 @@ ghost use Rattle.swh_fastlex.specs.Line.{IsLine};
 ghost use Rattle.swh_batchread.specs.Refs.{is_peeled};
 ghost use Rattle.swh_batchread.specs.RefSteps.{IsRefIn, IsRefBefore};
 
-use swh_base::{Kind, Name};
-use swh_pieces::split_at_byte;
+use swh_base::{Kind, Name, split_at_byte};
 
 /// What a line says: the id that a ref leads to, and the ref's name, where it lies in the line.
 #[derive(Clone, Copy, Debug)]

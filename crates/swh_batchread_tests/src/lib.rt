@@ -1,6 +1,6 @@
-//! Tests of the reading of batches and of refs over sources in memory: what git wrote, with the ids that git gives; each fault
-//! at its place; limits; and reads that fail.
-//! Stands on `swh_base`, `swh_outside`, `swh_memory_input`, `swh_object`, `swh_made` and `swh_batchread`.
+//! Tests of the reading of batches and of refs over sources in memory: what git wrote, with the ids that git gives;
+//! each fault at its place; limits; and reads that fail.
+//! Stands on `swh_base`, `swh_outside`, `swh_memory_input`, `swh_object`, `swh_dedup` and `swh_batchread`.
 //! Nothing stands above it.
 #![tactic(auto)]
 

@@ -4,7 +4,7 @@ use std::process::Abort;
 use std::test::Fail;
 use swh_base::{Kind, Name, Namer, Sha1Namer};
 use swh_batchread::{BatchFault, read_batch, read_refs};
-use swh_made::Objects;
+use swh_dedup::Objects;
 use swh_memory_input::MemorySource;
 use swh_object::Object;
 

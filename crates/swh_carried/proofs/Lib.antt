@@ -1,2 +1,4 @@
 pub mod Graphs
 pub mod Firsts
+pub mod WayCounts
+pub mod WaySteps

@@ -1,9 +1,9 @@
 //! Texts that are written once for a sink and once for a count.
 use std::alloc::{AllocError, Global};
 use std::test::Fail;
+use swh_fastwrite::{Counter, Taker, flush, settle, take_large};
 use swh_memory_input::MemorySink;
 use swh_outside::Failed;
-use swh_written::{Counter, Taker, flush, settle, take_large};
 
 /// What is done with the bytes that are held.
 #[derive(Clone, Copy)]

@@ -1,23 +1,17 @@
 -- Names that are met in a walk, and what they show in the end.
-use Rattle.std.proofs.Common.{◌≡◌, ◌⊎◌, inl, inr, ℕ, zero, suc, ◌+◌, ◌<◌, ◌≤◌, Option, Some, List, [], ◌∷◌, ◌++◌, length, take, get_or, refl, sym, ap, ◌∙◌, subst, arith, append_assoc, length-append}
+use Rattle.std.proofs.Common.{◌≡◌, ◌⊎◌, inl, inr, ℕ, ◌+◌, ◌<◌, ◌≤◌, Option, Some, List, [], ◌∷◌, ◌++◌, length, take, get_or, refl, sym, ap, ◌∙◌, subst, arith, append_assoc, length-append}
 use Rattle.std.specs.Prelude.{Contains}
 use Rattle.std.proofs.lemmas.List.{append-nil, take_more, take_all}
 use Rattle.std.proofs.lemmas.List.Elements.{Contains-append_left, Contains-append_right, Contains-append_cases, Contains-push, Contains-push_cases}
 use Rattle.swh_base.specs.declared.name.Name.{Name}
 use Rattle.swh_base.specs.Reach.{IsHeldIn, IsChildIn, IsCovered, ReachesIn, CertifiesIn}
 use Rattle.swh_base.proofs.Reaches.{reaches-next}
+use Rattle.swh_base.proofs.Elementary.{none_in, only}
 use Rattle.swh_closure.specs.declared.met.Turn.{Turn}
 use Rattle.swh_closure.specs.declared.met.Met.{Met}
 use Rattle.swh_closure.specs.Walk.{IsDue, IsTurn, IsNew, Meets}
 
 -- ---- lists
-
-none_in : {X : Type 0} → (x : X) → Contains [] x → ⊥
-none_in x (k, less, is) = absurd (omega (arith, less))
-
-only : {X : Type 0} → (x y : X) → Contains (x ∷ []) y → x ≡ y
-only x y (zero, less, is) = is
-only x y (suc k, less, is) = absurd (omega (arith, less))
 
 pub no_items : {X : Type 0} → (xs : List X) → length xs ≡ 0 → xs ≡ []
 no_items [] none = refl

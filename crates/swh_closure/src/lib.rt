@@ -1,7 +1,7 @@
 //! Certificates that all that is reached from a name is held: a walk makes one, and anybody checks it.
 //! Stands on `swh_base`.
-//! Callers may rely on: a certificate passes exactly where it leads nowhere else, and a walk gives one exactly where all
-//! that is reached is held.
+//! Callers may rely on: a certificate passes exactly where it leads nowhere else, and a walk gives one exactly where
+//! all that is reached is held.
 #![tactic(auto)]
 
 mod certificate;

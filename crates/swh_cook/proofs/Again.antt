@@ -14,11 +14,11 @@ use Rattle.swh_fastcook.specs.Cook.{IsCarriedStream, IsCookedText, IsHeadOf, IsT
 use Rattle.swh_dircook.specs.Cook.{IsCarriedFolder, IsFolderOf}
 use Rattle.swh_dircook.specs.Listing.{listing_text}
 use Rattle.swh_dircook.specs.Made.{Made, FileMade, FolderMade, all_made, folder_made, listing_path}
-use Rattle.swh_fastback.specs.Sound.{AreReachedOfBytes}
-use Rattle.swh_fastback.proofs.Histories.{named_bodies, bodies_in_limit}
-use Rattle.swh_fastback.proofs.Reached.{order_of_bytes, reached_back}
-use Rattle.swh_dirback.specs.Back.{AreGoodBodies, HoldsMade}
-use Rattle.swh_dirback.proofs.Law.{loads_back}
+use Rattle.swh_roundtrip.specs.Sound.{AreReachedOfBytes}
+use Rattle.swh_roundtrip.proofs.Histories.{named_bodies, bodies_in_limit}
+use Rattle.swh_roundtrip.proofs.Reached.{order_of_bytes, reached_back}
+use Rattle.swh_cook.specs.FolderBack.{AreGoodBodies, HoldsMade}
+use Rattle.swh_cook.proofs.Law.{loads_back}
 use Rattle.swh_cook.specs.Back.{IsBodyAgain, IsFolderAgain, IsStreamAgain, IsAgainOf, IsAgain}
 use Rattle.swh_cook.specs.Cook.{IsFileOf, AreMadeOf, AreMade, IsCarriedOf, IsCarried}
 

@@ -8,7 +8,7 @@ use Rattle.swh_outside.specs.Sink.{Begun, FileAt, TakesSome}
 use Rattle.swh_model.specs.Archive.{Bodies}
 use Rattle.swh_carried.specs.declared.fault.CookFault.{CookFault}
 use Rattle.swh_carried.specs.declared.fault.CookFault.TheVariants.{NotHeld, Uncarried, WriteFault, Memory}
-use Rattle.swh_written.specs.Sinks.{IsTaken}
+use Rattle.swh_fastwrite.specs.Sinks.{IsTaken}
 use Rattle.swh_fastcook.specs.Cause.{Breaks}
 use Rattle.swh_fastcook.specs.Cook.{IsCarriedStream, IsCookedText}
 use Rattle.swh_dircook.specs.Made.{Made, FileMade, Yarded, yarded}

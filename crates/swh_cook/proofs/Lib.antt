@@ -1,3 +1,17 @@
+pub mod Nodes
+pub mod Standing
+pub mod Listed
+pub mod Things
+pub mod Walked
+pub mod Read
+pub mod Placed
+pub mod Dirs
+pub mod Sizes
+pub mod Objects
+pub mod Carried
+pub mod Whole
+pub mod Law
+pub mod HoldingTree
 pub mod Ends
 pub mod Files
 pub mod Folders

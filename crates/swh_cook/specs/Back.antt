@@ -7,8 +7,8 @@ use Rattle.swh_outside.specs.Folder.{Tree}
 use Rattle.swh_model.specs.Archive.{Bodies, body_of}
 use Rattle.swh_postorder.specs.Postorder.{IsPostorder}
 use Rattle.swh_dircook.specs.Made.{Made, FileMade, listing_path}
-use Rattle.swh_dirback.specs.Back as folder
-use Rattle.swh_fastback.specs.LoadsBack as stream
+use Rattle.swh_cook.specs.FolderBack as folder
+use Rattle.swh_roundtrip.specs.LoadsBack as stream
 
 -- `id` gives the id of a kind and a body.
 module _ (id : Kind → List ℕ → List ℕ) (bodies : Bodies) (children_of : Name → Option (List Name)) (root : Name) (out : List ℕ) where

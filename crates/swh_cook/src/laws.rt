@@ -10,7 +10,7 @@ ghost use Rattle.swh_postorder.specs.Postorder.{IsFirstMissing};
 ghost use Rattle.swh_carried.specs.declared.fault.Why.{Why};
 ghost use Rattle.swh_fastcook.specs.Cook.{IsHeadOf};
 ghost use Rattle.swh_dircook.specs.Made.{Made};
-ghost use Rattle.swh_fastback.specs.Sound.{AreReachedOfBytes};
+ghost use Rattle.swh_roundtrip.specs.Sound.{AreReachedOfBytes};
 ghost use Rattle.swh_cook.specs.Back.{IsAgain};
 ghost use Rattle.swh_cook.specs.Cook.{AreMade, IsCarried, IsUncarried};
 

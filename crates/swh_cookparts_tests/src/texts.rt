@@ -2,7 +2,7 @@
 use std::alloc::Global;
 use std::test::Fail;
 use swh_base::Memory;
-use swh_fasttext::{
+use swh_fastwrite::{
     push_begin, push_blob_head, push_commit_head, push_data, push_end, push_file, push_marked,
     push_path, push_project, push_tag_head, push_tip,
 };

@@ -1,7 +1,7 @@
 //! One archive over every interleaving: its history, its two files and what each actor has seen, as one pure machine.
 //! Stands on `swh_base`, `swh_outside`, `swh_model`, `swh_format` and `swh_segment`.
-//! Callers may rely on: after every list of applies, looks, device faults and crashes the replay of the history is sound,
-//! all that was seen is a front of it, the files stand for it, and no event leaves it.
+//! Callers may rely on: after every list of applies, looks, device faults and crashes the replay of the history is
+//! sound, all that was seen is a front of it, the files stand for it, and no event leaves it.
 #![tactic(auto)]
 
 mod applying;

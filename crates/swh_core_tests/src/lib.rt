@@ -1,4 +1,5 @@
-//! Tests of the core: worked steps, with what is told of each, a crash between each two device calls of one, and random lists of steps against a second, naive machine.
+//! Tests of the core: worked steps, with what is told of each, a crash between each two device calls of one, and random
+//! lists of steps against a second, naive machine.
 //! Stands on the core and on objects.
 //! Nothing stands above it.
 #![tactic(auto)]

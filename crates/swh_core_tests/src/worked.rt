@@ -1,5 +1,5 @@
-//! Bodies with their ids, as git and Software Heritage give them: a content, a directory with it alone, and a snapshot with
-//! the one branch `b` to the directory; twice.
+//! Bodies with their ids, as git and Software Heritage give them: a content, a directory with it alone, and a snapshot
+//! with the one branch `b` to the directory; twice.
 use swh_base::Kind;
 
 /// A body of a kind.

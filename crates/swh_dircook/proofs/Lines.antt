@@ -12,10 +12,10 @@ use Rattle.swh_listing.specs.declared.listed.Listed.{Listed}
 use Rattle.swh_outside.specs.Sink.{Begun, FileAt}
 use Rattle.swh_pathwalk.specs.Tree.{Row}
 use Rattle.swh_pathwalk.specs.Walk.{Coming}
-use Rattle.swh_heldpaths.specs.Held.{IsAt}
-use Rattle.swh_written.specs.Held.{AddsUp, Kept, kept, Goes, Wrote}
-use Rattle.swh_written.specs.Sinks.{IntoSink, FrontIntoSink}
-use Rattle.swh_written.proofs.Pieces.{goes_appended, goes_both, front_behind, front_more, front_none}
+use Rattle.swh_pathwalk.specs.Held.{IsAt}
+use Rattle.swh_fastwrite.specs.Held.{AddsUp, Kept, kept, Goes, Wrote}
+use Rattle.swh_fastwrite.specs.Sinks.{IntoSink, FrontIntoSink}
+use Rattle.swh_fastwrite.proofs.Pieces.{goes_appended, goes_both, front_behind, front_more, front_none}
 use Rattle.swh_dircook.specs.Listing.{listed_of, all_listed, listed_line, line_or_none, lines_text, listing_text}
 use Rattle.swh_dircook.specs.Made.{FileMade, yarded, after_made, MakesSome}
 use Rattle.swh_dircook.proofs.YardParts.{same_yarded}

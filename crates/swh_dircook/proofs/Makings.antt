@@ -8,7 +8,7 @@ use Rattle.swh_outside.specs.Sink.{Begun, FolderAt}
 use Rattle.swh_model.specs.Archive.{Bodies}
 use Rattle.swh_pathwalk.specs.Tree.{Row}
 use Rattle.swh_pathwalk.specs.Walk.{Coming}
-use Rattle.swh_heldpaths.specs.Held.{IsAt}
+use Rattle.swh_pathwalk.specs.Held.{IsAt}
 use Rattle.swh_dircook.specs.Made.{Made, FolderMade, FileMade, yarded, made_of, all_made, Yarded, with_made, after_made, MakesSome, Makes}
 use Rattle.swh_dircook.proofs.YardParts.{same_yarded}
 

@@ -18,10 +18,10 @@ use Rattle.swh_postorder.proofs.Trips.{first_in}
 use Rattle.swh_postorder.proofs.Orders.{order_are}
 use Rattle.swh_pathwalk.specs.Tree.{Row, row_at, IsPathWalk}
 use Rattle.swh_pathwalk.proofs.Weights.{kids_are, leads}
-use Rattle.swh_heldpaths.specs.Held.{IsHeldOrder}
-use Rattle.swh_heldpaths.proofs.Preceding.{all_preceded}
-use Rattle.swh_heldpaths.proofs.Trees.{mapped_in}
-use Rattle.swh_heldpaths.proofs.Rows.{each_row}
+use Rattle.swh_pathwalk.specs.Held.{IsHeldOrder}
+use Rattle.swh_pathwalk.proofs.Preceding.{all_preceded}
+use Rattle.swh_pathwalk.proofs.Trees.{mapped_in}
+use Rattle.swh_pathwalk.proofs.Rows.{each_row}
 use Rattle.swh_carried.specs.Uncarried.{AreCarried, HasNoCycle}
 use Rattle.swh_carried.specs.declared.fault.Why.TheVariants.{Text}
 use Rattle.swh_dircook.specs.Made.{content_name, IsFileHeld}

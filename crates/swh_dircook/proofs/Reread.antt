@@ -3,7 +3,7 @@ use Rattle.std.proofs.Common.{◌≡◌, ◌⊎◌, inl, inr, ℕ, zero, suc, �
 use Rattle.std.specs.Prelude.{Contains}
 use Rattle.std.specs.List.{flat_map, list_any, list_all, AllByRecursion, AllPass}
 use Rattle.std.proofs.lemmas.List.{length-append}
-use Rattle.std.proofs.lemmas.Bool.{eqb-true, leb-true, leb-false}
+use Rattle.std.proofs.lemmas.Bool.{eqb-true, leb-true, leb-false, or_parts as none_true}
 use borrow.Author.Tests.{ltb-true}
 use Rattle.hex.specs.Hex.{encode_lower, lower_digits}
 use Rattle.hex.proofs.HexLemmas.{length-encode_with}
@@ -12,8 +12,8 @@ use Rattle.swh_base.specs.Limits.{line_limit, path_limit}
 use Rattle.swh_base.proofs.Ids.{IsIdText-encode}
 use Rattle.swh_fastlex.specs.Path.{Spells, PassesPath}
 use Rattle.swh_fastlex.proofs.Runs.{whole_run}
-use Rattle.swh_fasttext.specs.Quoted.{is_quoted_byte, quoted_byte, quoted_path}
-use Rattle.swh_fasttext.proofs.Quotes.{names_again}
+use Rattle.swh_fastwrite.specs.Quoted.{is_quoted_byte, quoted_byte, quoted_path}
+use Rattle.swh_fastwrite.proofs.Quotes.{names_again}
 use Rattle.swh_listing.specs.declared.limits.TheConstants.{LISTING_LIMIT}
 use Rattle.swh_listing.specs.declared.listed.Listed.{Listed}
 use Rattle.swh_listing.specs.declared.listed.Mode.{Mode}
@@ -44,10 +44,6 @@ both_true false b e = absurd cc
 either_true : (a b : Bool) → (a || b) ≡ true → (a ≡ true) ⊎ (b ≡ true)
 either_true true b e = inl refl
 either_true false b e = inr e
-
-none_true : (a b : Bool) → (a || b) ≡ false → (a ≡ false) × (b ≡ false)
-none_true true b e = absurd cc
-none_true false b e = (refl, e)
 
 shown_by_test : (xs : List ℕ) → list_all (λ c. nat_lt 31 c) xs ≡ true → AllByRecursion Shown xs
 shown_by_test [] e = tt

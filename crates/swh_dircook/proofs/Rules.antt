@@ -8,18 +8,19 @@ use Rattle.swh_base.specs.declared.kind.Kind.TheVariants.{Directory as Directory
 use Rattle.swh_base.specs.declared.name.Name.{Name}
 use Rattle.swh_base.specs.Directory.{DirectoryEntry, IsDirectory}
 use Rattle.swh_base.proofs.DirectoryLemmas.{one_listing_lem}
+use Rattle.swh_base.proofs.Elementary.{none_in, only}
 use Rattle.swh_dirfmt.specs.declared.entry.SpelledEntry.{SpelledEntry}
 use Rattle.swh_dirfmt.specs.Entries.{entry_of, entries_in_body}
 use Rattle.swh_model.specs.Archive.{Bodies, body_of}
 use Rattle.swh_graph.specs.Holding.{HoldsDirectory}
-use Rattle.swh_graph.proofs.Lists.{none_in, in_first, in_map, from_map, only, same_some}
+use Rattle.swh_graph.proofs.Lists.{in_first, in_map, from_map, same_some}
 use Rattle.swh_postorder.specs.Postorder.{Trip, Over, Passes, Enters, left_in, IsTrip, IsPostorder}
 use Rattle.swh_postorder.proofs.Orders.{AtOne, Sooner, Later, cuts, order_once}
 use Rattle.swh_carried.specs.declared.fault.Why.{Why}
 use Rattle.swh_carried.specs.declared.fault.Why.TheVariants.{Cycle, Revision, Release, Empty, Dots, Text, Path, Branch, Tagless, Refs, Length}
 use Rattle.swh_carried.specs.Rules.{HasDirectoryEntry, IsDots, HasDots, HasLongPath, way_length}
 use Rattle.swh_carried.specs.Uncarried.{rule_number, BreaksFirst, BreaksNone, IsFirstToBreak}
-use Rattle.swh_ways.specs.Ways.{IsWay, Tells}
+use Rattle.swh_carried.specs.Ways.{IsWay, Tells}
 use Rattle.swh_dircook.specs.Names.{HaveDots, HaveOtherText, BreaksByName}
 use Rattle.swh_dircook.specs.Rules.{HasOtherText, BreaksIn, IsFirstOf, IsLongOver}
 

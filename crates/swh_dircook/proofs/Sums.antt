@@ -7,13 +7,13 @@ use Rattle.std.proofs.lemmas.List.{length-append}
 use Rattle.swh_base.specs.declared.name.Name.{Name}
 use Rattle.swh_base.specs.Directory.{DirectoryEntry}
 use Rattle.swh_model.specs.Archive.{Bodies}
-use Rattle.swh_fasttext.specs.Quoted.{quoted_path}
+use Rattle.swh_fastwrite.specs.Quoted.{quoted_path}
 use Rattle.swh_listing.specs.declared.listed.Mode.{Mode}
 use Rattle.swh_listing.specs.declared.listed.Mode.TheVariants.{Executable, Link, Project}
 use Rattle.swh_listing.specs.Line.{mode_text}
 use Rattle.swh_pathwalk.specs.Tree.{Row, IsPathWalk}
 use Rattle.swh_pathsums.specs.Lengths.{IsUpTo, path_length, rows_length}
-use Rattle.swh_heldpaths.proofs.Trees.{one_walk}
+use Rattle.swh_pathwalk.proofs.Trees.{one_walk}
 use Rattle.swh_dircook.specs.Listing.{line_or_none, with_path, mode_of, listing_text}
 use Rattle.swh_dircook.specs.Rules.{files_length, IsLongFolder}
 use Rattle.swh_dircook.specs.Weights.{row_weight, file_weight, listed_weight, mode_weight, line_weight}

@@ -6,7 +6,7 @@ use Rattle.std.specs.Option.{option_map}
 use Rattle.swh_base.specs.Directory.{DirectoryEntry}
 use Rattle.swh_base.specs.Limits.{path_limit}
 use Rattle.swh_fastlex.specs.Path.{IsPath}
-use Rattle.swh_fasttext.specs.Quoted.{quoted_path}
+use Rattle.swh_fastwrite.specs.Quoted.{quoted_path}
 use Rattle.swh_pathwalk.specs.Tree.{Row}
 use Rattle.swh_listing.specs.declared.listed.Listed.{Listed}
 use Rattle.swh_listing.specs.declared.listed.Mode.{Mode}

@@ -6,7 +6,7 @@ use Rattle.swh_base.specs.Directory.{DirectoryEntry}
 use Rattle.swh_model.specs.Archive.{Bodies, body_of}
 use Rattle.swh_pathwalk.specs.Tree.{Row, IsPathWalk}
 use Rattle.swh_carried.specs.Rules.{HasDirectoryEntry, HasDots, HasLongPath}
-use Rattle.swh_ways.specs.Ways.{HaveLong}
+use Rattle.swh_carried.specs.Ways.{HaveLong}
 use Rattle.swh_carried.specs.declared.fault.Why.{Why}
 use Rattle.swh_carried.specs.declared.fault.Why.TheVariants.{Cycle, Revision, Release, Empty, Dots, Text, Path, Branch, Tagless, Refs, Length}
 use Rattle.swh_dircook.specs.Listing.{listing_text}

@@ -10,7 +10,7 @@ ghost use Rattle.swh_carried.specs.Uncarried.{IsFirstToBreak, BreaksNone};
 ghost use Rattle.swh_dirfmt.specs.Entries.{entries_in_body};
 ghost use Rattle.swh_postorder.specs.Cycle.{ArePreceded};
 ghost use Rattle.swh_postorder.specs.Postorder.{Precedes};
-ghost use Rattle.swh_ways.specs.Ways.{IsWay, TellAll};
+ghost use Rattle.swh_carried.specs.Ways.{IsWay, TellAll};
 ghost use Rattle.swh_dircook.specs.Names.{HaveDots, HaveOtherText};
 ghost use Rattle.swh_dircook.specs.Rules.{HasOtherText, BreaksIn, IsFirstOf, IsLongOver};
 
@@ -18,11 +18,10 @@ use crate::names::rule_of_names;
 use std::alloc::Global;
 use std::collections::BTreeMap;
 use swh_base::{Kind, Memory, Name};
-use swh_carried::Why;
+use swh_carried::{Why, have_long, way_to, ways_from};
 use swh_dirfmt::SpelledEntry;
 use swh_graph::{GraphFault, directory_at};
 use swh_model::Look;
-use swh_ways::{have_long, way_to, ways_from};
 
 /// Whether one of these entries makes a way too long, if one leads to them.
 fn is_long_over(way: Option<u64>, entries: &[SpelledEntry<'_>]) -> bool

@@ -1,13 +1,13 @@
 //! The lines of a listing.
 ghost use Rattle.std.specs.Prelude.{◌≡◌, ◌++◌, ◌∷◌, [], OnOk};
 ghost use Rattle.swh_dirfmt.specs.Entries.{entry_of};
-ghost use Rattle.swh_fasttext.specs.Quoted.{quoted_path};
+ghost use Rattle.swh_fastwrite.specs.Quoted.{quoted_path};
 ghost use Rattle.swh_listing.specs.Line.{mode_text};
 ghost use Rattle.swh_dircook.specs.Listing.{mode_of, with_path, line_or_none};
 
 use swh_base::Memory;
 use swh_dirfmt::SpelledEntry;
-use swh_fasttext::push_path;
+use swh_fastwrite::push_path;
 use swh_listing::Mode;
 
 /// What a listing says of an entry.

@@ -2,7 +2,7 @@
 ghost use Rattle.std.specs.Prelude.{◌≡◌, ◌++◌, IfOk, IfErr, OnOk, Contains};
 ghost use Rattle.swh_dirfmt.specs.Entries.{entry_of};
 ghost use Rattle.swh_graph.specs.Path.{directory_name};
-ghost use Rattle.swh_heldpaths.specs.Held.{IsHeldOrder};
+ghost use Rattle.swh_pathwalk.specs.Held.{IsHeldOrder};
 ghost use Rattle.swh_outside.specs.declared.fault.OutFault.TheVariants.{Memory as OutOfMemory};
 ghost use Rattle.swh_pathwalk.specs.Walk.{BeginsAt, Steps};
 ghost use Rattle.swh_pathwalk.specs.Weight.{LeadInto};
@@ -12,10 +12,9 @@ use crate::listing::push_listed;
 use std::alloc::Global;
 use swh_base::Name;
 use swh_dirfmt::SpelledEntry;
-use swh_heldpaths::{begin, next};
 use swh_model::Look;
 use swh_outside::OutFault;
-use swh_pathwalk::PathWalk;
+use swh_pathwalk::{PathWalk, begin, next};
 
 /// A walk over the paths of a directory in the order.
 pub fn begin_walk<'a, L: Look>(

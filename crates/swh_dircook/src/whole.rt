@@ -5,7 +5,7 @@ ghost use Rattle.swh_graph.specs.Path.{directory_name};
 ghost use Rattle.swh_outside.specs.Causes.{HasOutCause};
 ghost use Rattle.swh_pathwalk.specs.Tree.{Row, IsPathWalk};
 ghost use Rattle.swh_postorder.specs.Postorder.{IsPostorder};
-ghost use Rattle.swh_written.specs.Held.{Wrote, kept};
+ghost use Rattle.swh_fastwrite.specs.Held.{Wrote, kept};
 ghost use Rattle.swh_dircook.specs.Listing.{listing_text};
 ghost use Rattle.swh_dircook.specs.Made.{FileMade, all_made, folder_made, listing_path, yarded, Makes};
 ghost use Rattle.swh_dircook.specs.Rules.{BreaksInFolder};
@@ -14,9 +14,9 @@ use crate::rows::make_row;
 use crate::walk::{begin_walk, list_entry, next_entry};
 use std::alloc::{AllocError, Global};
 use swh_base::Name;
+use swh_fastwrite::{Taker, flush, settle};
 use swh_model::Look;
 use swh_outside::{OutFault, Yard};
-use swh_written::{Taker, flush, settle};
 
 /// Makes what stands in a folder for the entries under a directory, in the order of the walk over its paths.
 fn make_rows<L: Look, Y: Yard>(

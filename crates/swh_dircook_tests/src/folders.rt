@@ -1,5 +1,5 @@
-//! Directories that become folders: as git checks them out (`git checkout-index -a -f`, which makes no folder without files)
-//! and lists them (`git ls-tree -r -t`).
+//! Directories that become folders: as git checks them out (`git checkout-index -a -f`, which makes no folder without
+//! files) and lists them (`git ls-tree -r -t`).
 use crate::cooking::cooked;
 use crate::objects::{ALL, EMPTY, EMPTY_INSIDE, OBJECTS, PROGRAM};
 use crate::yards::Laid::{Bytes, List};

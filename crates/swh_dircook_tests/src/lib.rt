@@ -1,5 +1,5 @@
-//! Tests of what a directory becomes as a folder: what git makes of it, the lines of its listing, what no folder carries,
-//! a yard that fails at each of its calls; and that what was cooked is loaded again.
+//! Tests of what a directory becomes as a folder: what git makes of it, the lines of its listing, what no folder
+//! carries, a yard that fails at each of its calls; and that what was cooked is loaded again.
 //! Stands on `swh_dircook`, on `swh_dirload`, which loads folders, and on what keeps an archive and a yard in memory.
 //! Nothing stands above it.
 #![tactic(auto)]

@@ -6,7 +6,7 @@ use std::sync::ArcSlice;
 use std::test::Fail;
 use swh_base::{Kind, Name, Sha1Namer};
 use swh_dirload::load_folder;
-use swh_memory_input::{MemoryFolder, MemorySource, Place, Stands};
+use swh_memory_input::{MemoryFolder, MemorySource, PathItem, Stands};
 use swh_outside::{Item, What};
 
 /// The snapshots of one branch `HEAD` to each of the directories that are cooked, in their order.
@@ -26,7 +26,7 @@ fn items_of(alloc: Global, list: &[(&str, What)]) -> Result<Vec<Item>, AllocErro
     Ok(items)
 }
 
-fn place_of(alloc: Global, path: &str, laid: Laid) -> Result<Place, AllocError> {
+fn place_of(alloc: Global, path: &str, laid: Laid) -> Result<PathItem, AllocError> {
     let path = String::from_str(alloc, path)?;
     let stands = match laid {
         Laid::List(list) => Stands::Folder(items_of(alloc, list)?),
@@ -36,7 +36,7 @@ fn place_of(alloc: Global, path: &str, laid: Laid) -> Result<Place, AllocError> 
             failing: Vec::new(alloc),
         },
     };
-    Ok(Place { path, stands })
+    Ok(PathItem { path, stands })
 }
 
 /// The folder that a row says, which the yard has as well.

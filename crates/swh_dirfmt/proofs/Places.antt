@@ -1,22 +1,18 @@
 -- Entries ascend, so a search finds where an entry of a name and an order stands.
-use Rattle.std.proofs.Common.{◌≡◌, ◌≢◌, ℕ, zero, suc, ◌+◌, ◌<◌, Bool, true, false, inl, inr, List, [], ◌∷◌, ◌++◌, length, get_or, refl, sym, ap, ◌∙◌, subst, arith, All}
+use Rattle.std.proofs.Common.{◌≡◌, ◌≢◌, ℕ, zero, suc, ◌+◌, ◌<◌, true, false, inl, inr, List, [], ◌∷◌, ◌++◌, length, get_or, sym, ap, ◌∙◌, subst, arith, All}
 use Rattle.std.specs.List.{AllByRecursion, AllWithin}
-use Rattle.std.specs.Ordering.{nat_cmp, is_lt, ordering_reverse, ordering_then}
+use Rattle.std.specs.Ordering.{nat_cmp, is_lt, ordering_then}
 use Rattle.std.specs.declared.cmp.Ordering.{Ordering}
 use Rattle.std.specs.Cmp.Lexicographic.{slice_cmp}
 use Rattle.std.specs.declared.cmp.Ordering.TheVariants.{Less, Equal, Greater}
-use Rattle.std.proofs.lemmas.Bool.{cases_lt}
+use Rattle.std.proofs.lemmas.Bool.{cases_lt, false_from_ne_true as not_true}
 use Rattle.std.proofs.lemmas.Cmp.{nat_cmp_total, nat_list_cmp_total}
 use Rattle.std.proofs.lemmas.List.{get_or_default}
 use Rattle.std.proofs.lemmas.List.Elements.{All-from_recursion}
 use Rattle.swh_base.specs.Directory.{DirectoryEntry, IsBefore, IsAfter, AreEntries, suffix_of}
-use Rattle.swh_pieces.proofs.Lasts.{less_from}
+use Rattle.swh_base.proofs.Elementary.{own_reverse, less_from}
 use Rattle.swh_dirfmt.specs.declared.entry.SpelledEntry.{SpelledEntry}
 use Rattle.swh_dirfmt.specs.Entries.{entry_of, entries_in_body, key_of, comes_before}
-
-not_true : (b : Bool) → (b ≡ true → ⊥) → b ≡ false
-not_true true h = absurd (h refl)
-not_true false h = refl
 
 never_itself : (k : List ℕ) → slice_cmp nat_cmp k k ≡ Less → ⊥
 never_itself k e = let turned = nat_list_cmp_total.antisymm k k in let both : Less ≡ Greater = rw e at turned in cc
@@ -70,11 +66,6 @@ none_so_named xs name suffix place h before others other k d within s e =
     let is : key_of (get_or xs k d) ≡ name ++ suffix = ap (λ (n : List ℕ). n ++ suffix_of (get_or xs k d).mode) e ∙ ap (λ (t : List ℕ). name ++ t) s in
     let same = place_of xs (name ++ suffix) place k d h before others within is in
     other d (omega arith) (ap (λ (i : ℕ). (get_or xs i d).name.now) same ∙ e)
-
-own_reverse : (o : Ordering) → o ≡ ordering_reverse o → o ≡ Equal
-own_reverse Less e = absurd (cc)
-own_reverse Equal e = refl
-own_reverse Greater e = absurd (cc)
 
 same_number : (n : ℕ) → nat_cmp n n ≡ Equal
 same_number n = own_reverse (nat_cmp n n) (nat_cmp_total.antisymm n n)

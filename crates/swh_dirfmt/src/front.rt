@@ -22,7 +22,7 @@ ghost use Rattle.swh_dirfmt.specs.Entries.{entry_of};
 
 use crate::entry::SpelledEntry;
 use crate::fault::DirWhy;
-use swh_pieces::split_at_byte;
+use swh_base::split_at_byte;
 
 /// The mode of these digits.
 #[tactic(auto, using(crate::proofs::Modes::modes))]

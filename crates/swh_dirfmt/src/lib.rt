@@ -1,5 +1,5 @@
 //! Directory manifests (git objects, tree): a body read into its entries, and written again, byte for byte.
-//! Stands on `swh_base`, whose grammar of directories it reads and writes, on `swh_pieces` and on `itoa`.
+//! Stands on `swh_base`, whose grammar of directories it reads and writes, on `swh_base` and on `itoa`.
 //! Callers may rely on: exactly the grammar is read, a refusal names the first entry that breaks and why, and each list
 //! of entries has one spelling.
 #![tactic(auto)]

@@ -1,7 +1,7 @@
 -- Lists in strict order that have the same elements are one.
 use Rattle.std.proofs.Common.{◌≡◌, ◌⊎◌, inl, inr, List, [], ◌∷◌, Contains, refl, sym, ap, ◌∙◌, subst}
 use Rattle.std.specs.List.{AllByRecursion}
-use Rattle.swh_made.proofs.Elements.{first_or_later, first_is, later_is, none_is, each_is}
+use Rattle.swh_dedup.proofs.Elements.{first_or_later, first_is, later_is, none_is, each_is}
 
 module _ {X : Type 0} (Before : X → X → Type 0) where
   -- each comes before all behind it

@@ -9,7 +9,7 @@ use Rattle.swh_base.specs.Directory.{IsEntryName}
 use Rattle.swh_outside.specs.Folder.{IsFolderEntryName}
 use Rattle.swh_outside.specs.declared.folder.What.TheVariants.{Folder}
 use Rattle.swh_dirload.specs.declared.found.Found.{Found}
-use Rattle.swh_dirmade.specs.declared.place.Place.{Place}
+use Rattle.swh_dirmade.specs.declared.member.Member.{Member}
 use Rattle.swh_dirmade.specs.declared.spot.Spot.{Spot}
 use Rattle.swh_dirload.specs.Items.{Item}
 use Rattle.swh_dirload.specs.Found as found
@@ -98,7 +98,7 @@ length_items paths [] = refl
 length_items paths (f ∷ fs) = let h = length_items (paths ++ found.path_in paths f ∷ []) fs in omega (arith, h)
 
 -- the first item of a path tells what stands there
-first_match : (items : List Item) (standing : List Place) (path : List ℕ) (n : ℕ) (d : Item) → n < length items → length standing ≡ length items → (get_or items n d).0 ≡ path → ((k : ℕ) → k < n → (get_or items k d).0 ≡ path → ⊥) → places_of items standing path ≡ Some (place_at standing n)
+first_match : (items : List Item) (standing : List Member) (path : List ℕ) (n : ℕ) (d : Item) → n < length items → length standing ≡ length items → (get_or items n d).0 ≡ path → ((k : ℕ) → k < n → (get_or items k d).0 ≡ path → ⊥) → places_of items standing path ≡ Some (place_at standing n)
 first_match [] standing path n d lt count is first = absurd (omega (arith, lt))
 first_match (i ∷ items) [] path n d lt count is first = absurd (omega (arith, count))
 first_match (i ∷ items) (s ∷ standing) path zero d lt count is first = ap (λ (b : Bool). cond b (Some s) (places_of items standing path)) ((bytes_eq-Decides path i.0).1 (sym is))
@@ -106,7 +106,7 @@ first_match (i ∷ items) (s ∷ standing) path (suc n) d lt count is first =
     ap (λ (b : Bool). cond b (Some s) (places_of items standing path)) (test_apart path i.0 (λ e. first 0 (omega arith) (sym e)))
     ∙ first_match items standing path n d (omega (arith, lt)) (omega (arith, count)) is (λ k low. first (suc k) (omega (arith, low)))
 
-no_match : (items : List Item) (standing : List Place) (path : List ℕ) (d : Item) → ((k : ℕ) → k < length items → (get_or items k d).0 ≡ path → ⊥) → places_of items standing path ≡ None
+no_match : (items : List Item) (standing : List Member) (path : List ℕ) (d : Item) → ((k : ℕ) → k < length items → (get_or items k d).0 ≡ path → ⊥) → places_of items standing path ≡ None
 no_match [] standing path d none = refl
 no_match (i ∷ items) [] path d none = refl
 no_match (i ∷ items) (s ∷ standing) path d none =
@@ -121,7 +121,7 @@ paths_found fs = λ k lt.
     let e : 0 + k ≡ k = omega arith in
     sym (item_path [] fs k d (omega (arith, lt, m)) ∙ ap (path_to (map spot_in fs)) e)
 
-pub stand_found : (fs : List Found) (standing : List Place) → IsTable (map spot_in fs) → length standing ≡ length fs → Stand (map spot_in fs) standing (places_of (found.items_of fs) standing)
+pub stand_found : (fs : List Found) (standing : List Member) → IsTable (map spot_in fs) → length standing ≡ length fs → Stand (map spot_in fs) standing (places_of (found.items_of fs) standing)
 stand_found fs standing table count =
     let items = found.items_of fs in
     let n = length_items [] fs in

@@ -8,29 +8,20 @@ use Rattle.std.proofs.lemmas.Nat.{from_be_bytes-to_be_bytes_8}
 use Rattle.std.proofs.lemmas.Slice.Eq.{bytes_eq-Decides}
 use Rattle.std.proofs.lemmas.Map.Text.{is_eq-slice_cmp}
 use Rattle.std.specs.FinMap.{nat_cmp-IsAntisymmetric, slice_cmp-IsAntisymmetric}
-use Rattle.std.specs.Ordering.{nat_cmp, is_eq, ordering_reverse, match_ordering}
+use Rattle.std.specs.Ordering.{nat_cmp, is_eq, match_ordering}
 use Rattle.std.specs.declared.cmp.Ordering.{Ordering}
 use Rattle.std.specs.declared.cmp.Ordering.TheVariants.{Less, Equal, Greater}
 use Rattle.std.specs.Cmp.Lexicographic.{slice_cmp, nat_list_cmp_total}
 use Rattle.std.specs.BTreeMap.{insert_entry}
-use Rattle.std.proofs.lemmas.Bool.{cases_lt}
+use Rattle.std.proofs.lemmas.Bool.{cases_lt, false_from_ne_true as not_true}
+use Rattle.swh_base.proofs.Elementary.{equal_order, none_some, own_reverse}
 use Rattle.swh_dirmade.specs.declared.spot.Spot.{Spot}
 use Rattle.swh_dirmade.specs.Spots.{above_at, name_at, IsTable}
 use Rattle.swh_dirload.specs.Index.{key_text, number_of, Adds, LeadsTo, IsIndexTo, IsIndex, IsIn, HasNone}
 use Rattle.swh_dirmade.proofs.SpotTables.{above_is, name_is, tree_of}
 
-own_reverse : (o : Ordering) → o ≡ ordering_reverse o → o ≡ Equal
-own_reverse Less e = absurd (cc)
-own_reverse Equal e = refl
-own_reverse Greater e = absurd (cc)
-
 order_self : (p : List ℕ) → slice_cmp nat_cmp p p ≡ Equal
 order_self p = own_reverse (slice_cmp nat_cmp p p) (nat_list_cmp_total.antisymm p p)
-
-equal_order : (o : Ordering) → is_eq o ≡ true → o ≡ Equal
-equal_order Less e = absurd (cc)
-equal_order Equal e = refl
-equal_order Greater e = absurd (cc)
 
 same_bytes : (a b : List ℕ) → is_eq (slice_cmp nat_cmp a b) ≡ true → a ≡ b
 same_bytes a b e = slice_cmp-IsAntisymmetric nat_cmp-IsAntisymmetric a b (equal_order (slice_cmp nat_cmp a b) e)
@@ -88,18 +79,11 @@ key_cut a b m n ha hb e =
 pub test_self : (a : List ℕ) → bytes_eq a a ≡ true
 test_self a = (bytes_eq-Decides a a).1 refl
 
-not_true : (b : Bool) → (b ≡ true → ⊥) → b ≡ false
-not_true true h = absurd (h refl)
-not_true false h = refl
-
 pub test_apart : (a b : List ℕ) → (a ≡ b → ⊥) → bytes_eq a b ≡ false
 test_apart a b h = not_true (bytes_eq a b) (λ e. h ((bytes_eq-Decides a b).0 e))
 
 pub the_some : (a b : ℕ) → Some a ≡ Some b → a ≡ b
 the_some a b e = cc
-
-none_some : (n : ℕ) → None ≡ Some n → ⊥
-none_some n e = absurd (cc)
 
 abbrev key_at : List Spot → ℕ → List ℕ
 key_at spots n = key_text (above_at spots n) (name_at spots n)

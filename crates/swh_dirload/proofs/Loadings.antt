@@ -9,13 +9,13 @@ use Rattle.swh_base.specs.declared.name.Name.{Name}
 use Rattle.swh_base.specs.Snapshot.{IsSnapshot, snapshot_name}
 use Rattle.swh_outside.specs.Folder.{Tree}
 use Rattle.swh_model.specs.Meaning.{Made}
-use Rattle.swh_made.specs.Giving.{AreNew}
-use Rattle.swh_made.specs.Making.{made_from, made, name_of, names_of_made, object_of}
-use Rattle.swh_made.specs.Whole.{names_of}
-use Rattle.swh_made.proofs.Elements.{contains_map}
-use Rattle.swh_made.proofs.Wholes.{same_names, new_whole}
-use Rattle.swh_dirmade.specs.declared.place.Place.{Place}
-use Rattle.swh_dirmade.specs.declared.place.Place.TheVariants as stands
+use Rattle.swh_dedup.specs.Giving.{AreNew}
+use Rattle.swh_dedup.specs.Making.{made_from, made, name_of, names_of_made, object_of}
+use Rattle.swh_dedup.specs.Whole.{names_of}
+use Rattle.swh_dedup.proofs.Elements.{contains_map}
+use Rattle.swh_dedup.proofs.Wholes.{same_names, new_whole}
+use Rattle.swh_dirmade.specs.declared.member.Member.{Member}
+use Rattle.swh_dirmade.specs.declared.member.Member.TheVariants as stands
 use Rattle.swh_dirmade.specs.declared.spot.Spot.{Spot}
 use Rattle.swh_dirmade.specs.Directories.{GivesDirectories}
 use Rattle.swh_dirmade.specs.Giving.{GivesOne}
@@ -89,7 +89,7 @@ module _ (id : Kind → List ℕ → List ℕ) where
     read_breaks text items ReadFault walk h = tt
     read_breaks text items Memory walk h = tt
 
-    module _ (spots : List Spot) (standing : List Place) (contents : List Entry) (table : IsTable spots) (has : HasTable id tree spots standing contents) where
+    module _ (spots : List Spot) (standing : List Member) (contents : List Entry) (table : IsTable spots) (has : HasTable id tree spots standing contents) where
       reads_of : ReadsFolder id tree has.items (places_of has.items standing) contents
       reads_of = record { found = standing; total = has.total; walk = has.walk; reads = has.reads; are = λ path. refl }
 
@@ -116,7 +116,7 @@ module _ (id : Kind → List ℕ → List ℕ) where
           short = all_short has.items spots standing spots standing (places_of has.items standing) table has.stand has.paths has.count (kinds id tree 0 [] has.items standing has.total contents has.reads) (same_on spots standing) short;
         }
 
-        reads_both : (text : List ℕ) (spots_now : List Spot) (standing_now : List Place) → (taken : AreTaken (places_of has.items standing) text spots_now standing_now) → ReadsBoth id tree text has.items taken.places contents
+        reads_both : (text : List ℕ) (spots_now : List Spot) (standing_now : List Member) → (taken : AreTaken (places_of has.items standing) text spots_now standing_now) → ReadsBoth id tree text has.items taken.places contents
         reads_both text spots_now standing_now taken = record { before = places_of has.items standing; folder = has_folder; said = taken.said; listing = taken.listing; takes = taken.takes }
 
         lines_break : (text : List ℕ) (fault : DirFault) → ExplainsLines (places_of has.items standing) text fault → ExplainsFolder id tree text fault
@@ -126,7 +126,7 @@ module _ (id : Kind → List ℕ → List ℕ) where
         lines_break text ReadFault h = tt
         lines_break text Memory h = tt
 
-        long_breaks : (text : List ℕ) (spots_now : List Spot) (standing_now : List Place) (fault : DirFault) → AreTaken (places_of has.items standing) text spots_now standing_now → GoesOn spots standing spots_now standing_now → IsTable spots_now → ExplainsLength spots_now standing_now fault → ExplainsFolder id tree text fault
+        long_breaks : (text : List ℕ) (spots_now : List Spot) (standing_now : List Member) (fault : DirFault) → AreTaken (places_of has.items standing) text spots_now standing_now → GoesOn spots standing spots_now standing_now → IsTable spots_now → ExplainsLength spots_now standing_now fault → ExplainsFolder id tree text fault
         long_breaks text spots_now standing_now (OtherKind path) taken goes now h = absurd h
         long_breaks text spots_now standing_now (BadModes line) taken goes now h = absurd h
         long_breaks text spots_now standing_now (Limit which number) taken goes now h = inr (inr (
@@ -142,14 +142,14 @@ module _ (id : Kind → List ℕ → List ℕ) where
         long_breaks text spots_now standing_now ReadFault taken goes now h = tt
         long_breaks text spots_now standing_now Memory taken goes now h = tt
 
-        pub listing_breaks : (text : List ℕ) (spots_now : List Spot) (standing_now : List Place) (fault : DirFault) → ExplainsLines (places_of has.items standing) text fault ⊎ IsLongAfter (places_of has.items standing) text spots standing spots_now standing_now fault → ExplainsFolder id tree text fault
+        pub listing_breaks : (text : List ℕ) (spots_now : List Spot) (standing_now : List Member) (fault : DirFault) → ExplainsLines (places_of has.items standing) text fault ⊎ IsLongAfter (places_of has.items standing) text spots standing spots_now standing_now fault → ExplainsFolder id tree text fault
         listing_breaks text spots_now standing_now fault (inl h) = lines_break text fault h
         listing_breaks text spots_now standing_now fault (inr h) = long_breaks text spots_now standing_now fault h.taken h.goes h.table h.long
 
-        pub root_listed : (text : List ℕ) (spots_now : List Spot) (standing_now : List Place) → (taken : AreTaken (places_of has.items standing) text spots_now standing_now) → GoesOn spots standing spots_now standing_now → IsTable spots_now → taken.places [] ≡ Some stands.Folder
+        pub root_listed : (text : List ℕ) (spots_now : List Spot) (standing_now : List Member) → (taken : AreTaken (places_of has.items standing) text spots_now standing_now) → GoesOn spots standing spots_now standing_now → IsTable spots_now → taken.places [] ≡ Some stands.Folder
         root_listed text spots_now standing_now taken goes now = root_stands has.items spots standing spots_now standing_now taken.places now taken.stand has.paths has.count (kinds id tree 0 [] has.items standing has.total contents has.reads) goes tree has.walk.all
 
-        pub means_listed : (text : List ℕ) (spots_now : List Spot) (standing_now : List Place) (objects : List Entry) (snapshot : List ℕ) → (taken : AreTaken (places_of has.items standing) text spots_now standing_now) → GoesOn spots standing spots_now standing_now → IsTable spots_now → sizes.AreShort spots_now standing_now → MakesAll id taken.places contents objects snapshot → AreNew id [] objects → MeansFolder id tree text objects snapshot
+        pub means_listed : (text : List ℕ) (spots_now : List Spot) (standing_now : List Member) (objects : List Entry) (snapshot : List ℕ) → (taken : AreTaken (places_of has.items standing) text spots_now standing_now) → GoesOn spots standing spots_now standing_now → IsTable spots_now → sizes.AreShort spots_now standing_now → MakesAll id taken.places contents objects snapshot → AreNew id [] objects → MeansFolder id tree text objects snapshot
         means_listed text spots_now standing_now objects snapshot taken goes now fits makes fresh = record {
           items = has.items;
           places = taken.places;
@@ -166,7 +166,7 @@ module _ (id : Kind → List ℕ → List ℕ) where
         }
 
         -- the folder's own directory
-        pub root_of : (text : List ℕ) (spots_now : List Spot) (standing_now : List Place) (mid : List Entry) (root : List ℕ) → (taken : AreTaken (places_of has.items standing) text spots_now standing_now) → GoesOn spots standing spots_now standing_now → IsTable spots_now → sizes.AreShort spots_now standing_now → GivesDirectories id taken.places contents mid root → HasRoot id tree text root
+        pub root_of : (text : List ℕ) (spots_now : List Spot) (standing_now : List Member) (mid : List Entry) (root : List ℕ) → (taken : AreTaken (places_of has.items standing) text spots_now standing_now) → GoesOn spots standing spots_now standing_now → IsTable spots_now → sizes.AreShort spots_now standing_now → GivesDirectories id taken.places contents mid root → HasRoot id tree text root
         root_of text spots_now standing_now mid root taken goes now fits gives = record {
           items = has.items;
           places = taken.places;

@@ -7,9 +7,9 @@ use Rattle.swh_base.specs.Limits.{body_limit}
 use Rattle.swh_outside.specs.Folder.{Tree}
 use Rattle.swh_outside.specs.declared.folder.What.{What}
 use Rattle.swh_outside.specs.declared.folder.What.TheVariants as item
-use Rattle.swh_made.proofs.Elements.{all_from}
-use Rattle.swh_dirmade.specs.declared.place.Place.{Place}
-use Rattle.swh_dirmade.specs.declared.place.Place.TheVariants as stands
+use Rattle.swh_dedup.proofs.Elements.{all_from}
+use Rattle.swh_dirmade.specs.declared.member.Member.{Member}
+use Rattle.swh_dirmade.specs.declared.member.Member.TheVariants as stands
 use Rattle.swh_dirmade.specs.declared.spot.Spot.{Spot}
 use Rattle.swh_dirmade.specs.Directories.{HasSize}
 use Rattle.swh_dirmade.specs.Numbers.{IsFolderAt}
@@ -25,23 +25,23 @@ use Rattle.swh_dirload.specs.Walk.{root, Takes, IsWalk}
 use Rattle.swh_dirload.proofs.Sizes.{has_size}
 
 -- what stands at a number is of the kind of its item
-pub record HaveKinds (items : List Item) (standing : List Place) : Type 0 where
+pub record HaveKinds (items : List Item) (standing : List Member) : Type 0 where
   pub count : length standing ≡ length items
   pub to : (n : ℕ) → n < length items → (item_at items n).1 ≡ item.Folder → place_at standing n ≡ stands.Folder
   pub from : (n : ℕ) → n < length items → place_at standing n ≡ stands.Folder → (item_at items n).1 ≡ item.Folder
 
 module _ (id : Kind → List ℕ → List ℕ) (tree : Tree) where
-  kind_to : (path : List ℕ) (what : What) (count : ℕ) (old : List Entry) (place : Place) (new : List Entry) → IsRead id tree path what count old place new → what ≡ item.Folder → place ≡ stands.Folder
+  kind_to : (path : List ℕ) (what : What) (count : ℕ) (old : List Entry) (place : Member) (new : List Entry) → IsRead id tree path what count old place new → what ≡ item.Folder → place ≡ stands.Folder
   kind_to path item.File count old place new h e = absurd (cc)
   kind_to path item.Folder count old place new h e = h.1
   kind_to path item.Other count old place new h e = absurd h
 
-  kind_from : (path : List ℕ) (what : What) (count : ℕ) (old : List Entry) (place : Place) (new : List Entry) → IsRead id tree path what count old place new → place ≡ stands.Folder → what ≡ item.Folder
+  kind_from : (path : List ℕ) (what : What) (count : ℕ) (old : List Entry) (place : Member) (new : List Entry) → IsRead id tree path what count old place new → place ≡ stands.Folder → what ≡ item.Folder
   kind_from path item.File count old place new h e = let f = h.3 in absurd (cc)
   kind_from path item.Folder count old place new h e = refl
   kind_from path item.Other count old place new h e = absurd h
 
-  pub kinds : (at : ℕ) (old : List Entry) (items : List Item) (places : List Place) (now : ℕ) (new : List Entry) → ReadsAll id tree at old items places now new → HaveKinds items places
+  pub kinds : (at : ℕ) (old : List Entry) (items : List Item) (places : List Member) (now : ℕ) (new : List Entry) → ReadsAll id tree at old items places now new → HaveKinds items places
   kinds at old [] [] now new h = record { count = refl; to = λ n lt is. absurd (omega (arith, lt)); from = λ n lt is. absurd (omega (arith, lt)) }
   kinds at old [] (p ∷ places) now new h = absurd h
   kinds at old (i ∷ items) [] now new h = absurd h
@@ -72,7 +72,7 @@ cut_at [] n lt = absurd (omega (arith, lt))
 cut_at (i ∷ items) zero lt = (items, refl)
 cut_at (i ∷ items) (suc n) lt = let h = cut_at items n (omega (arith, lt)) in (h.0, ap (λ (rest : List Item). i ∷ rest) h.1)
 
-module _ (items : List Item) (spots : List Spot) (standing : List Place) (spots_now : List Spot) (standing_now : List Place) (places : Places) (table : IsTable spots_now) (stand : Stand spots_now standing_now places) (paths : HavePaths spots items) (count : length spots ≡ length items) (kept : HaveKinds items standing) (on : GoesOn spots standing spots_now standing_now) where
+module _ (items : List Item) (spots : List Spot) (standing : List Member) (spots_now : List Spot) (standing_now : List Member) (places : Places) (table : IsTable spots_now) (stand : Stand spots_now standing_now places) (paths : HavePaths spots items) (count : length spots ≡ length items) (kept : HaveKinds items standing) (on : GoesOn spots standing spots_now standing_now) where
   path_is : (n : ℕ) → n < length items → path_to spots_now n ≡ (item_at items n).0
   path_is n lt = on.paths n (omega (arith, lt, count)) ∙ paths n (omega (arith, lt, count))
 
@@ -137,4 +137,4 @@ module _ (items : List Item) (spots : List Spot) (standing : List Place) (spots_
       let m = on.more in
       let first : 0 < length spots = omega (arith, some, count) in
       let there : place_at standing_now 0 ≡ stands.Folder = on.stay 0 first (kept.to 0 some (ap (λ (i : Item). i.1) (first_root tree items takes))) in
-      ap places (sym (tree_of spots_now table).first) ∙ stand.there 0 (omega (arith, first, m)) ∙ ap (λ (p : Place). Some p) there
+      ap places (sym (tree_of spots_now table).first) ∙ stand.there 0 (omega (arith, first, m)) ∙ ap (λ (p : Member). Some p) there

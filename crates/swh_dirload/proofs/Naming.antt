@@ -1,5 +1,5 @@
 -- Names in folders, none of which stands twice in one.
-use Rattle.std.proofs.Common.{◌≡◌, ◌≢◌, ℕ, suc, ◌+◌, ◌<◌, ◌≤◌, Bool, true, false, List, [], ◌∷◌, ◌++◌, length, map, get_or, refl, sym, subst, arith}
+use Rattle.std.proofs.Common.{◌≡◌, ◌≢◌, ℕ, suc, ◌+◌, ◌<◌, ◌≤◌, List, [], ◌∷◌, ◌++◌, length, map, get_or, refl, sym, subst, arith}
 use Rattle.std.specs.Prelude.{string_bytes}
 use Rattle.std.specs.List.{AllByRecursion}
 use Rattle.std.specs.List.Sorted.{IsPermutation}
@@ -9,21 +9,13 @@ use Rattle.std.proofs.lemmas.List.Sorted.{All-permutation, IsPermutation-map}
 use Rattle.std.proofs.lemmas.Slice.Eq.{bytes_eq-Decides}
 use Rattle.std.proofs.lemmas.Map.Keys.{IsDistinct-IsPermutation}
 use Rattle.std.proofs.lemmas.Map.Made.{AllPairs-from_IsDistinct, IsDistinct-from_AllPairs}
+use Rattle.swh_dirmade.proofs.Entries.{flips}
 use Rattle.swh_outside.specs.Folder.{FolderEntry, IsFolderEntryName, AreNames}
 use Rattle.swh_outside.specs.Listing.{listed}
 use Rattle.swh_outside.specs.declared.folder.Item as listing
 use Rattle.swh_dirload.specs.declared.found.Found.{Found}
 use Rattle.swh_dirload.specs.Items.{AreInOrder}
 use Rattle.swh_dirload.specs.Found.{IsPlaced, ArePlaced, AreBelow, AreApart, AreNamed, AreNamedBehind, found_in}
-
-same_tests : (a b : Bool) → (a ≡ true → b ≡ true) → (b ≡ true → a ≡ true) → a ≡ b
-same_tests true true f g = refl
-same_tests true false f g = sym (f refl)
-same_tests false true f g = g refl
-same_tests false false f g = refl
-
-flips : (a b : List ℕ) → bytes_eq a b ≡ bytes_eq b a
-flips a b = same_tests (bytes_eq a b) (bytes_eq b a) (λ e. (bytes_eq-Decides b a).1 (sym ((bytes_eq-Decides a b).0 e))) (λ e. (bytes_eq-Decides a b).1 (sym ((bytes_eq-Decides b a).0 e)))
 
 -- names that are put in order stay good, and none stands twice
 pub names_in_order : (ordered : List FolderEntry) → AreInOrder ordered → AreNames (map (λ entry. entry.name) ordered)

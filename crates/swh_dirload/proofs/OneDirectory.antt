@@ -10,13 +10,13 @@ use Rattle.std.proofs.lemmas.Slice.Eq.{bytes_eq-Decides}
 use Rattle.swh_base.specs.declared.kind.Kind.{Kind}
 use Rattle.swh_base.specs.Limits.{path_limit}
 use Rattle.swh_base.specs.Directory.{DirectoryEntry, IsEntryName, IsBefore, AreEntries, sort_key}
-use Rattle.swh_made.proofs.Elements.{first_is, later_is, each_is}
+use Rattle.swh_dedup.proofs.Elements.{first_is, later_is, each_is}
 use Rattle.swh_listing.specs.declared.listed.Listed.{Listed}
 use Rattle.swh_listing.specs.declared.listed.Mode.{Mode}
 use Rattle.swh_listing.specs.declared.listed.Mode.TheVariants.{Executable, Link, Project}
 use Rattle.swh_outside.specs.declared.folder.What.{What}
-use Rattle.swh_dirmade.specs.declared.place.Place.{Place}
-use Rattle.swh_dirmade.specs.declared.place.Place.TheVariants as stands
+use Rattle.swh_dirmade.specs.declared.member.Member.{Member}
+use Rattle.swh_dirmade.specs.declared.member.Member.TheVariants as stands
 use Rattle.swh_dirmade.specs.Directories.{entry_of, entry_for, IsEntryIn, AreDirectories}
 use Rattle.swh_dirmade.specs.Paths.{child}
 use Rattle.swh_dirmade.specs.Spots.{Places}
@@ -28,21 +28,21 @@ use Rattle.swh_dirload.proofs.OneTaking.{AreSame}
 
 -- ## Folders stay folders, and nothing else becomes one
 
-abbrev a_folder : Option Place
+abbrev a_folder : Option Member
 a_folder = Some stands.Folder
 
-mode_back : (mode : ℕ) (old : Option Place) → with_mode mode old ≡ a_folder → old ≡ a_folder
+mode_back : (mode : ℕ) (old : Option Member) → with_mode mode old ≡ a_folder → old ≡ a_folder
 mode_back mode (Some (stands.File m id)) e = absurd (cc)
 mode_back mode (Some stands.Folder) e = refl
 mode_back mode (Some (stands.Project id)) e = absurd (cc)
 mode_back mode None e = absurd (cc)
 
-changed_back : (mode : Mode) (old : Option Place) → changed mode old ≡ a_folder → old ≡ a_folder
+changed_back : (mode : Mode) (old : Option Member) → changed mode old ≡ a_folder → old ≡ a_folder
 changed_back Executable old e = mode_back 100755 old e
 changed_back Link old e = mode_back 120000 old e
 changed_back (Project id) old e = absurd (cc)
 
-cond_back : (b : Bool) (mode : Mode) (old : Option Place) → cond b (changed mode old) old ≡ a_folder → old ≡ a_folder
+cond_back : (b : Bool) (mode : Mode) (old : Option Member) → cond b (changed mode old) old ≡ a_folder → old ≡ a_folder
 cond_back true mode old e = changed_back mode old e
 cond_back false mode old e = e
 
@@ -51,10 +51,10 @@ pub was_folder : (before now : Places) (lines : List Listed) (dir : List ℕ) �
 was_folder before now [] dir h e = sym (h dir) ∙ e
 was_folder before now (l ∷ lines) dir h e = cond_back (bytes_eq dir l.path) l.mode (before dir) (was_folder (take before l) now lines dir h.1 e)
 
-mode_stays : (mode : ℕ) (old : Option Place) → old ≡ a_folder → with_mode mode old ≡ a_folder
+mode_stays : (mode : ℕ) (old : Option Member) → old ≡ a_folder → with_mode mode old ≡ a_folder
 mode_stays mode old e = ap (with_mode mode) e
 
-none_folder : (old : Option Place) → old ≡ None → old ≡ a_folder → ⊥
+none_folder : (old : Option Member) → old ≡ None → old ≡ a_folder → ⊥
 none_folder old e f = absurd (cc)
 
 changed_stays : (places : Places) (mode : Mode) (path dir : List ℕ) → dir ≡ path → MayTake places mode path → places dir ≡ a_folder → changed mode (places dir) ≡ a_folder
@@ -72,7 +72,7 @@ stays_folder before now [] dir h e = h dir ∙ e
 stays_folder before now (l ∷ lines) dir h e = stays_folder (take before l) now lines dir h.1 (cond_stays before l.mode l.path dir (bytes_eq dir l.path) (λ is. (bytes_eq-Decides dir l.path).0 is) h.0 e)
 
 -- what stands somewhere is an item
-stands_where : (items : List Item) (found : List Place) (path : List ℕ) (place : Place) → places_of items found path ≡ Some place → (what : What) × Contains items (path, what)
+stands_where : (items : List Item) (found : List Member) (path : List ℕ) (place : Member) → places_of items found path ≡ Some place → (what : What) × Contains items (path, what)
 stands_where [] found path place e = absurd (cc)
 stands_where (i ∷ items) [] path place e = absurd (cc)
 stands_where (i ∷ items) (p ∷ found) path place e = by_test (stands_where items found path place) (bytes_eq path i.0) (λ is. (bytes_eq-Decides path i.0).0 is) e
@@ -81,7 +81,7 @@ stands_where (i ∷ items) (p ∷ found) path place e = by_test (stands_where it
     by_test behind true same e = (i.1, subst (λ (x : List ℕ). Contains (i ∷ items) (x, i.1)) (sym (same refl)) (first_is i items))
     by_test behind false same e = let r = behind e in (r.0, later_is i items (path, r.0) r.1)
 
-pub short_path : (items : List Item) (found : List Place) (path : List ℕ) (place : Place) → AllFit items → places_of items found path ≡ Some place → length path ≤ path_limit
+pub short_path : (items : List Item) (found : List Member) (path : List ℕ) (place : Member) → AllFit items → places_of items found path ≡ Some place → length path ≤ path_limit
 short_path items found path place fit e =
     let r = stands_where items found path place e in
     (each_is (λ (i : Item). Fits i.0 i.1) items (path, r.0) fit r.1).1
@@ -103,12 +103,12 @@ up [] h = tt
 up (e ∷ es) h = (h.2, up es h.3)
 
 module _ (id : Kind → List ℕ → List ℕ) where
-  same_place : (name : List ℕ) (below other : List DirectoryEntry) (place : Place) → (Some place ≡ a_folder → below ≡ other) → entry_of id name below place ≡ entry_of id name other place
+  same_place : (name : List ℕ) (below other : List DirectoryEntry) (place : Member) → (Some place ≡ a_folder → below ≡ other) → entry_of id name below place ≡ entry_of id name other place
   same_place name below other (stands.File mode content) h = refl
   same_place name below other stands.Folder h = ap (λ (es : List DirectoryEntry). entry_of id name es stands.Folder) (h refl)
   same_place name below other (stands.Project revision) h = refl
 
-  same_entry : (name : List ℕ) (below other : List DirectoryEntry) (place : Option Place) → (place ≡ a_folder → below ≡ other) → entry_for id name below place ≡ entry_for id name other place
+  same_entry : (name : List ℕ) (below other : List DirectoryEntry) (place : Option Member) → (place ≡ a_folder → below ≡ other) → entry_for id name below place ≡ entry_for id name other place
   same_entry name below other (Some place) h = ap (λ (e : DirectoryEntry). Some e) (same_place name below other place h)
   same_entry name below other None h = refl
 

@@ -14,15 +14,15 @@ use Rattle.swh_outside.specs.Folder.{Tree}
 use Rattle.swh_outside.specs.declared.folder.What.{What}
 use Rattle.swh_outside.specs.declared.folder.What.TheVariants as item
 use Rattle.swh_model.specs.Meaning.{Made, directory}
-use Rattle.swh_made.specs.Making.{made, object_of}
+use Rattle.swh_dedup.specs.Making.{made, object_of}
 use Rattle.swh_listing.specs.declared.fault.ListingFault.{ListingFault}
 use Rattle.swh_listing.specs.declared.fault.ListingFault.TheVariants as listing
 use Rattle.swh_listing.specs.declared.listed.Listed.{Listed}
 use Rattle.swh_listing.specs.Listing.{Reads}
 use Rattle.swh_listing.specs.Fault.{NextBreaks}
 use Rattle.swh_listing.proofs.Faults.{one_listing}
-use Rattle.swh_dirmade.specs.declared.place.Place.{Place}
-use Rattle.swh_dirmade.specs.declared.place.Place.TheVariants as stands
+use Rattle.swh_dirmade.specs.declared.member.Member.{Member}
+use Rattle.swh_dirmade.specs.declared.member.Member.TheVariants as stands
 use Rattle.swh_dirmade.specs.Spots.{Places}
 use Rattle.swh_dirmade.specs.Directories.{IsDirectoryOf, HasSize, directory_id}
 use Rattle.swh_dirmade.specs.Snapshots.{head}
@@ -75,7 +75,7 @@ module _ (id : Kind → List ℕ → List ℕ) (tree : Tree) where
 
   one_found : (items : List Item) (places others : Places) (a b : List Entry) → ReadsFolder id tree items places a → ReadsFolder id tree items others b → AreSame places others
   one_found items places others a b h k path =
-      h.are path ∙ ap (λ (found : List Place). places_of items found path) (same_reading id tree 0 [] [] items h.found k.found h.total k.total a b h.reads k.reads).0 ∙ sym (k.are path)
+      h.are path ∙ ap (λ (found : List Member). places_of items found path) (same_reading id tree 0 [] [] items h.found k.found h.total k.total a b h.reads k.reads).0 ∙ sym (k.are path)
 
   moved : (items others : List Item) (places : Places) (contents : List Entry) → items ≡ others → ReadsFolder id tree items places contents → ReadsFolder id tree others places contents
   moved items others places contents e h = subst (λ (xs : List Item). ReadsFolder id tree xs places contents) e h
@@ -102,14 +102,14 @@ module _ (id : Kind → List ℕ → List ℕ) (tree : Tree) where
   -- ## One meaning
 
   -- the folder itself stands at the empty path
-  root_found : (items : List Item) (found : List Place) (now : ℕ) (new : List Entry) → Takes tree (root ∷ []) items [] → ReadsAll id tree 0 [] items found now new → places_of items found [] ≡ Some stands.Folder
+  root_found : (items : List Item) (found : List Member) (now : ℕ) (new : List Entry) → Takes tree (root ∷ []) items [] → ReadsAll id tree 0 [] items found now new → places_of items found [] ≡ Some stands.Folder
   root_found [] found now new takes h = absurd (cc)
   root_found (i ∷ items) [] now new takes h = absurd h
   root_found (i ∷ items) (p ∷ found) now new takes h =
       let t = takes.2 in
       let e : root ≡ i = cc in
       let here : p ≡ stands.Folder = (subst (λ (x : Item). IsRead id tree x.0 x.1 h.0 [] p h.1) (sym e) h.2).1 in
-      ap (λ (b : Bool). cond b (Some p) (places_of items found [])) ((bytes_eq-Decides [] i.0).1 (ap (λ (x : Item). x.0) e)) ∙ ap (λ (q : Place). Some q) here
+      ap (λ (b : Bool). cond b (Some p) (places_of items found [])) ((bytes_eq-Decides [] i.0).1 (ap (λ (x : Item). x.0) e)) ∙ ap (λ (q : Member). Some q) here
 
   root_folder : (text : List ℕ) (items : List Item) (places : Places) (contents : List Entry) → ReadsBoth id tree text items places contents → places [] ≡ Some stands.Folder
   root_folder text items places contents h =

@@ -10,11 +10,11 @@ use Rattle.swh_outside.specs.Folder.{Tree}
 use Rattle.swh_outside.specs.declared.folder.What.{What}
 use Rattle.swh_outside.specs.declared.folder.What.TheVariants.{File, Folder, Other}
 use Rattle.swh_model.specs.Meaning.{Made, content}
-use Rattle.swh_made.specs.Making.{made}
+use Rattle.swh_dedup.specs.Making.{made}
 use Rattle.swh_dirload.specs.declared.fault.DirFault.TheVariants.{Limit}
 use Rattle.swh_dirload.specs.declared.limits.TheConstants.{FILES_LIMIT}
-use Rattle.swh_dirmade.specs.declared.place.Place.{Place}
-use Rattle.swh_dirmade.specs.declared.place.Place.TheVariants as stands
+use Rattle.swh_dirmade.specs.declared.member.Member.{Member}
+use Rattle.swh_dirmade.specs.declared.member.Member.TheVariants as stands
 use Rattle.swh_dirmade.proofs.Built.{grows, given_there}
 use Rattle.swh_dirload.specs.Files.{IsTooLong}
 use Rattle.swh_dirload.specs.Items.{Item}
@@ -47,18 +47,18 @@ two_cuts (i ∷ a) [] x y m n e = let first : i ≡ y = cc in First a (ap (λ (k
 two_cuts (i ∷ a) (j ∷ b) x y m n e = let first : i ≡ j = cc in more_cuts i j a b x y first (two_cuts a b x y m n (cc))
 
 module _ (id : Kind → List ℕ → List ℕ) (tree : Tree) where
-  same_read : (path : List ℕ) (what : What) (count other : ℕ) (old lower : List Entry) (place stood : Place) (new later : List Entry) → IsRead id tree path what count old place new → IsRead id tree path what other lower stood later → (count ≡ other) × (place ≡ stood)
+  same_read : (path : List ℕ) (what : What) (count other : ℕ) (old lower : List Entry) (place stood : Member) (new later : List Entry) → IsRead id tree path what count old place new → IsRead id tree path what other lower stood later → (count ≡ other) × (place ≡ stood)
   same_read path File count other old lower place stood new later h k =
       let e = one_file tree path h.0 k.0 h.1 k.1 in
       (sym h.2 ∙ ap length e ∙ k.2, h.3 ∙ ap (λ (bytes : List ℕ). stands.File 100644 (id Content bytes)) e ∙ sym k.3)
   same_read path Folder count other old lower place stood new later h k = (h.0 ∙ sym k.0, h.1 ∙ sym k.1)
   same_read path Other count other old lower place stood new later h k = absurd h
 
-  same_places : (p q : Place) (ps qs : List Place) → p ≡ q → ps ≡ qs → p ∷ ps ≡ q ∷ qs
-  same_places p q ps qs e f = ap (λ (x : Place). x ∷ ps) e ∙ ap (λ (xs : List Place). q ∷ xs) f
+  same_places : (p q : Member) (ps qs : List Member) → p ≡ q → ps ≡ qs → p ∷ ps ≡ q ∷ qs
+  same_places p q ps qs e f = ap (λ (x : Member). x ∷ ps) e ∙ ap (λ (xs : List Member). q ∷ xs) f
 
   -- what stands there, and how many bytes are read, are one
-  pub same_reading : (at : ℕ) (old lower : List Entry) (items : List Item) (places others : List Place) (now then : ℕ) (new later : List Entry) → ReadsAll id tree at old items places now new → ReadsAll id tree at lower items others then later → (places ≡ others) × (now ≡ then)
+  pub same_reading : (at : ℕ) (old lower : List Entry) (items : List Item) (places others : List Member) (now then : ℕ) (new later : List Entry) → ReadsAll id tree at old items places now new → ReadsAll id tree at lower items others then later → (places ≡ others) × (now ≡ then)
   same_reading at old lower [] [] [] now then new later h k = (refl, sym h.0 ∙ k.0)
   same_reading at old lower [] [] (q ∷ others) now then new later h k = absurd k
   same_reading at old lower [] (p ∷ places) others now then new later h k = absurd h
@@ -85,13 +85,13 @@ module _ (id : Kind → List ℕ → List ℕ) (tree : Tree) where
     | inr is ↦ gives_all b lower later k m (inr (is ∙ ap content e))
   ]
 
-  same_content : (path : List ℕ) (what : What) (count other : ℕ) (old lower : List Entry) (place stood : Place) (new later : List Entry) → ((m : Made) → Contains (made old) m → Contains (made lower) m) → IsRead id tree path what count old place new → IsRead id tree path what other lower stood later → (m : Made) → Contains (made new) m → Contains (made later) m
+  same_content : (path : List ℕ) (what : What) (count other : ℕ) (old lower : List Entry) (place stood : Member) (new later : List Entry) → ((m : Made) → Contains (made old) m → Contains (made lower) m) → IsRead id tree path what count old place new → IsRead id tree path what other lower stood later → (m : Made) → Contains (made new) m → Contains (made later) m
   same_content path File count other old lower place stood new later same h k m c = one_content h.0 k.0 old lower new later (one_file tree path h.0 k.0 h.1 k.1) same h.4 k.4 m c
   same_content path Folder count other old lower place stood new later same h k m c = subst (λ (es : List Entry). Contains (made es) m) (sym k.2) (same m (subst (λ (es : List Entry). Contains (made es) m) h.2 c))
   same_content path Other count other old lower place stood new later same h k m c = absurd h
 
   -- the contents that are given are the same
-  pub same_contents : (at from : ℕ) (old lower : List Entry) (items : List Item) (places others : List Place) (now then : ℕ) (new later : List Entry) → ((m : Made) → Contains (made old) m → Contains (made lower) m) → ReadsAll id tree at old items places now new → ReadsAll id tree from lower items others then later → (m : Made) → Contains (made new) m → Contains (made later) m
+  pub same_contents : (at from : ℕ) (old lower : List Entry) (items : List Item) (places others : List Member) (now then : ℕ) (new later : List Entry) → ((m : Made) → Contains (made old) m → Contains (made lower) m) → ReadsAll id tree at old items places now new → ReadsAll id tree from lower items others then later → (m : Made) → Contains (made new) m → Contains (made later) m
   same_contents at from old lower [] [] [] now then new later same h k m c = subst (λ (es : List Entry). Contains (made es) m) k.1 (same m (subst (λ (es : List Entry). Contains (made es) m) (sym h.1) c))
   same_contents at from old lower [] [] (q ∷ others) now then new later same h k m c = absurd k
   same_contents at from old lower [] (p ∷ places) others now then new later same h k m c = absurd h
@@ -102,21 +102,21 @@ module _ (id : Kind → List ℕ → List ℕ) (tree : Tree) where
 
   -- The reading comes to an item where so many bytes were read, and reads it.
   pub record ReadsOne (before : List Item) (item : Item) : Type 0 where
-    pub places : List Place
+    pub places : List Member
     pub at : ℕ
     pub given : List Entry
     pub reads : ReadsAll id tree 0 [] before places at given
     pub count : ℕ
-    pub place : Place
+    pub place : Member
     pub new : List Entry
     pub is : IsRead id tree item.0 item.1 count given place new
     pub within : at + count ≤ FILES_LIMIT
 
   -- the same behind items that were read
   abbrev ReadsBehind : ℕ → List Entry → List Item → Item → Type 0
-  ReadsBehind at old before item = (places : List Place) × (here : ℕ) × (given : List Entry) × ReadsAll id tree at old before places here given × ((count : ℕ) × (place : Place) × (new : List Entry) × IsRead id tree item.0 item.1 count given place new × (here + count ≤ FILES_LIMIT))
+  ReadsBehind at old before item = (places : List Member) × (here : ℕ) × (given : List Entry) × ReadsAll id tree at old before places here given × ((count : ℕ) × (place : Member) × (new : List Entry) × IsRead id tree item.0 item.1 count given place new × (here + count ≤ FILES_LIMIT))
 
-  reads_behind : (at : ℕ) (old : List Entry) (before : List Item) (item : Item) (rest : List Item) (places : List Place) (now : ℕ) (new : List Entry) → ReadsAll id tree at old (before ++ item ∷ rest) places now new → ReadsBehind at old before item
+  reads_behind : (at : ℕ) (old : List Entry) (before : List Item) (item : Item) (rest : List Item) (places : List Member) (now : ℕ) (new : List Entry) → ReadsAll id tree at old (before ++ item ∷ rest) places now new → ReadsBehind at old before item
   reads_behind at old [] item rest [] now new h = absurd h
   reads_behind at old [] item rest (p ∷ places) now new h = ([], at, old, (refl, refl), (h.0, p, h.1, h.2, h.3))
   reads_behind at old (b ∷ before) item rest [] now new h = absurd h
@@ -124,13 +124,13 @@ module _ (id : Kind → List ℕ → List ℕ) (tree : Tree) where
       let r = reads_behind (at + h.0) h.1 before item rest places now new h.4 in
       (p ∷ r.0, r.1, r.2, (h.0, h.1, h.2, h.3, r.3), r.4)
 
-  pub reads_one : (all before : List Item) (item : Item) (rest : List Item) (places : List Place) (now : ℕ) (new : List Entry) → all ≡ before ++ item ∷ rest → ReadsAll id tree 0 [] all places now new → ReadsOne before item
+  pub reads_one : (all before : List Item) (item : Item) (rest : List Item) (places : List Member) (now : ℕ) (new : List Entry) → all ≡ before ++ item ∷ rest → ReadsAll id tree 0 [] all places now new → ReadsOne before item
   reads_one all before item rest places now new cut h =
       let r = reads_behind 0 [] before item rest places now new (subst (λ (xs : List Item). ReadsAll id tree 0 [] xs places now new) cut h) in
       record { places = r.0; at = r.1; given = r.2; reads = r.3; count = r.4.0; place = r.4.1; new = r.4.2; is = r.4.3; within = r.4.4 }
 
   -- an item that is read passes no limit
-  not_long : (path : List ℕ) (what : What) (count : ℕ) (old : List Entry) (place : Place) (new : List Entry) → what ≡ File → IsRead id tree path what count old place new → IsTooLong tree path → ⊥
+  not_long : (path : List ℕ) (what : What) (count : ℕ) (old : List Entry) (place : Member) (new : List Entry) → what ≡ File → IsRead id tree path what count old place new → IsTooLong tree path → ⊥
   not_long path File count old place new e h t =
       let same : t.bytes ≡ h.0 = same_bytes t.bytes h.0 (sym t.are ∙ h.1.are) in
       let n = ap length same in
@@ -140,7 +140,7 @@ module _ (id : Kind → List ℕ → List ℕ) (tree : Tree) where
   not_long path Folder count old place new e h t = absurd (cc)
   not_long path Other count old place new e h t = absurd h
 
-  not_over : (at : ℕ) (path bytes : List ℕ) (what : What) (count : ℕ) (old : List Entry) (place : Place) (new : List Entry) → what ≡ File → at + count ≤ FILES_LIMIT → IsRead id tree path what count old place new → HasFile tree path bytes → FILES_LIMIT < at + length bytes → ⊥
+  not_over : (at : ℕ) (path bytes : List ℕ) (what : What) (count : ℕ) (old : List Entry) (place : Member) (new : List Entry) → what ≡ File → at + count ≤ FILES_LIMIT → IsRead id tree path what count old place new → HasFile tree path bytes → FILES_LIMIT < at + length bytes → ⊥
   not_over at path bytes File count old place new e within h f long =
       let n = ap length (one_file tree path bytes h.0 f h.1) in
       let m = h.2 in
@@ -148,7 +148,7 @@ module _ (id : Kind → List ℕ → List ℕ) (tree : Tree) where
   not_over at path bytes Folder count old place new e within h f long = absurd (cc)
   not_over at path bytes Other count old place new e within h f long = absurd h
 
-  not_passed : (at : ℕ) (path : List ℕ) (what : What) (count : ℕ) (old : List Entry) (place : Place) (new : List Entry) (which : Which) (number : ℕ) → what ≡ File → at + count ≤ FILES_LIMIT → IsRead id tree path what count old place new → PassesAt id tree at path which number → ⊥
+  not_passed : (at : ℕ) (path : List ℕ) (what : What) (count : ℕ) (old : List Entry) (place : Member) (new : List Entry) (which : Which) (number : ℕ) → what ≡ File → at + count ≤ FILES_LIMIT → IsRead id tree path what count old place new → PassesAt id tree at path which number → ⊥
   not_passed at path what count old place new Body number e within h p = not_long path what count old place new e h p.1
   not_passed at path what count old place new Objects number e within h p = p
   not_passed at path what count old place new Bytes number e within h p = p
@@ -161,13 +161,13 @@ module _ (id : Kind → List ℕ → List ℕ) (tree : Tree) where
   not_passed at path what count old place new Refs number e within h p = p
 
   -- what is read does not stop there
-  stops_not : (which : Which) (number : ℕ) (before : List Item) (path : List ℕ) (kind : What) (places : List Place) (at : ℕ) (given : List Entry) → ReadsAll id tree 0 [] before places at given → ExplainsRead id tree at path kind (Limit which number) → ReadsOne before (path, kind) → ⊥
+  stops_not : (which : Which) (number : ℕ) (before : List Item) (path : List ℕ) (kind : What) (places : List Member) (at : ℕ) (given : List Entry) → ReadsAll id tree 0 [] before places at given → ExplainsRead id tree at path kind (Limit which number) → ReadsOne before (path, kind) → ⊥
   stops_not which number before path kind places at given reads breaks one =
       let same = same_reading 0 [] [] before one.places places one.at at one.given given one.reads reads in
       not_passed at path kind one.count one.given one.place one.new which number breaks.0 (subst (λ (n : ℕ). n + one.count ≤ FILES_LIMIT) same.1 one.within) one.is breaks.1
 
   -- a folder whose files are read has no limit that they pass
-  pub reads_or_stops : (items : List Item) (places : List Place) (now : ℕ) (new : List Entry) (which : Which) (number : ℕ) → ReadsAll id tree 0 [] items places now new → StopsAt id tree [] items (Limit which number) → ⊥
+  pub reads_or_stops : (items : List Item) (places : List Member) (now : ℕ) (new : List Entry) (which : Which) (number : ℕ) → ReadsAll id tree 0 [] items places now new → StopsAt id tree [] items (Limit which number) → ⊥
   reads_or_stops items places now new which number h s =
       stops_not which number s.before s.path s.kind s.places s.at s.given s.reads s.breaks (reads_one items s.before (s.path, s.kind) s.rest places now new s.cut h)
 
@@ -219,7 +219,7 @@ module _ (id : Kind → List ℕ → List ℕ) (tree : Tree) where
   abbrev at_path : List ℕ → What → Item
   at_path path kind = (path, kind)
 
-  same_stop : (which other : Which) (m n : ℕ) (a b : List Item) (p q : List ℕ) (k l : What) (ps qs : List Place) (at to : ℕ) (es fs : List Entry) → a ≡ b → at_path p k ≡ at_path q l → ReadsAll id tree 0 [] a ps at es → ReadsAll id tree 0 [] b qs to fs → ExplainsRead id tree at p k (Limit which m) → ExplainsRead id tree to q l (Limit other n) → Limit which m ≡ Limit other n
+  same_stop : (which other : Which) (m n : ℕ) (a b : List Item) (p q : List ℕ) (k l : What) (ps qs : List Member) (at to : ℕ) (es fs : List Entry) → a ≡ b → at_path p k ≡ at_path q l → ReadsAll id tree 0 [] a ps at es → ReadsAll id tree 0 [] b qs to fs → ExplainsRead id tree at p k (Limit which m) → ExplainsRead id tree to q l (Limit other n) → Limit which m ≡ Limit other n
   same_stop which other m n a b p q k l ps qs at to es fs e f r s x y =
       let moved : ReadsAll id tree 0 [] b ps at es = subst (λ (xs : List Item). ReadsAll id tree 0 [] xs ps at es) e r in
       let same = same_reading 0 [] [] b ps qs at to es fs moved s in

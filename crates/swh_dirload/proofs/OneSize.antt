@@ -3,7 +3,7 @@ use Rattle.std.proofs.Common.{◌≡◌, ◌≢◌, ◌⊎◌, inl, inr, ℕ, su
 use Rattle.std.specs.List.{AllPairs, sum_by}
 use Rattle.std.proofs.lemmas.List.Sorted.{IsPermutation-middle, sum_by-IsPermutation}
 use Rattle.std.proofs.lemmas.List.Sums.{sum_by-cons}
-use Rattle.swh_made.proofs.Elements.{first_or_later, first_is, later_is, none_is}
+use Rattle.swh_dedup.proofs.Elements.{first_or_later, first_is, later_is, none_is}
 use Rattle.swh_dirmade.specs.Directories.{Row, row_size, HasSize}
 use Rattle.swh_dirmade.specs.Paths.{child}
 use Rattle.swh_dirmade.specs.Spots.{Places}

@@ -1,10 +1,9 @@
 -- The lines of a listing over a folder break in one way at most.
-use Rattle.std.proofs.Common.{◌≡◌, ◌⊎◌, inl, inr, ℕ, suc, ◌+◌, ◌<◌, List, [], ◌∷◌, ◌++◌, length, Contains, refl, sym, ap, ◌∙◌, subst, arith}
+use Rattle.std.proofs.Common.{◌≡◌, ◌⊎◌, inl, inr, ℕ, ◌+◌, ◌<◌, List, [], ◌∷◌, ◌++◌, length, Contains, refl, sym, ap, ◌∙◌, subst, arith}
 use Rattle.std.proofs.lemmas.List.{append-nil}
 use Rattle.swh_base.specs.declared.visit.Which.{Which}
 use Rattle.swh_base.specs.declared.visit.Which.TheVariants.{Body, Objects, Bytes, Store, Ledger, Stream, Line, Path, Ref, Refs}
-use Rattle.swh_base.proofs.Splits.{first_split}
-use Rattle.swh_pieces.proofs.Middle.{in_middle}
+use Rattle.swh_base.proofs.Middle.{in_middle}
 use Rattle.swh_dirmade.specs.Spots.{Places}
 use Rattle.swh_listing.specs.declared.fault.ListingFault.{ListingFault}
 use Rattle.swh_listing.specs.declared.fault.ListingFault.TheVariants.{BadModes, Limit, ReadFault, Memory}
@@ -12,20 +11,12 @@ use Rattle.swh_listing.specs.declared.listed.Listed.{Listed}
 use Rattle.swh_listing.specs.Line.{SaysListed, PassesPathIn}
 use Rattle.swh_listing.specs.Listing.{HasLine, TakesLine, behind, Reads, IsListing}
 use Rattle.swh_listing.specs.Fault.{GoesOn, NextPasses, NextBreaks, IsFault}
-use Rattle.swh_listing.proofs.Faults.{no_fault, one_fault}
+use Rattle.swh_listing.proofs.Faults.{no_fault, one_fault, in_longer, same_line}
 use Rattle.swh_listing.proofs.Modes.{one_said}
 use Rattle.swh_dirload.specs.Places.{MayTake, TakesAll}
 use Rattle.swh_dirload.proofs.OneTaking.{AreSame, may_come}
 
 -- ## A line that is read breaks nothing
-
-in_longer : (line before x y : List ℕ) → line ++ 10 ∷ x ≡ before ++ y → length line < length before → Contains before 10
-in_longer line [] x y e lt = absurd (omega (arith, lt))
-in_longer [] (c ∷ before) x y e lt = let here : c ≡ 10 = cc in (0, omega arith, here)
-in_longer (d ∷ line) (c ∷ before) x y e lt = let h = in_longer line before x y (cc) (omega (arith, lt)) in let l = h.1 in (suc h.0, omega (arith, l), h.2)
-
-same_line : (at : ℕ) (text a b x y : List ℕ) → HasLine at text a x → HasLine at text b y → (a ≡ b) × (x ≡ y)
-same_line at text a b x y h k = first_split 10 a b x y h.one_line k.one_line (sym h.cut ∙ k.cut)
 
 no_longer : (text line rest before : List ℕ) (at : ℕ) → HasLine at text line rest → GoesOn text before → length line < length before → ⊥
 no_longer text line rest before at h g lt = g.one_line (in_longer line before rest (g.byte ∷ g.rest) (sym h.cut ∙ g.cut) lt)

@@ -5,7 +5,7 @@ use Rattle.swh_dirmade.specs.Spots.{Places}
 use Rattle.swh_listing.specs.declared.listed.Listed.{Listed}
 use Rattle.swh_listing.specs.declared.listed.Mode.{Mode}
 use Rattle.swh_listing.specs.declared.listed.Mode.TheVariants.{Executable, Link, Project}
-use Rattle.swh_dirmade.specs.declared.place.Place.{Place}
+use Rattle.swh_dirmade.specs.declared.member.Member.{Member}
 use Rattle.swh_dirload.specs.Places.{MayTake, changed, take, TakesAll}
 
 -- the same stands at each path
@@ -20,7 +20,7 @@ may_same places others (Project id) path same h =
     (sym (same path) ∙ h.0, record { dir = f.dir; name = f.name; cut = f.cut; some = f.some; one = f.one; folder = sym (same f.dir) ∙ f.folder })
 
 take_same : (places others : Places) (listed : Listed) → AreSame places others → AreSame (take places listed) (take others listed)
-take_same places others listed same path = ap (λ (old : Option Place). cond (bytes_eq path listed.path) (changed listed.mode old) old) (same path)
+take_same places others listed same path = ap (λ (old : Option Member). cond (bytes_eq path listed.path) (changed listed.mode old) old) (same path)
 
 -- the same lines make the same of it
 pub one_taking : (places others : Places) (lines : List Listed) (now then : Places) → AreSame places others → TakesAll places lines now → TakesAll others lines then → AreSame now then

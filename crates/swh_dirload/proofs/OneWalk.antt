@@ -11,10 +11,11 @@ use Rattle.std.proofs.lemmas.Cmp.{nat_list_cmp_total}
 use Rattle.std.proofs.lemmas.List.{append-nil}
 use Rattle.std.proofs.lemmas.List.MinMax.{ranks_by}
 use Rattle.std.proofs.lemmas.List.Sorted.{sorted_far, Contains-permutation, IsPermutation-sym}
+use Rattle.swh_base.proofs.Elementary.{less_or}
 use Rattle.swh_outside.specs.Folder.{FolderEntry, Tree, AreNames, IsFolderEntryName}
 use Rattle.swh_outside.specs.declared.folder.What.{What}
 use Rattle.swh_outside.specs.declared.folder.What.TheVariants.{File, Folder, Other}
-use Rattle.swh_made.proofs.Elements.{all_from, none_is}
+use Rattle.swh_dedup.proofs.Elements.{all_from, none_is}
 use Rattle.swh_dirmade.proofs.Paths.{Plain, not_plain, last_cut}
 use Rattle.swh_dirload.specs.Items.{Item, key_end, entry_key, item_in, IsOrder, HasItems, Fits}
 use Rattle.swh_dirload.specs.Walk.{root, Visits, Takes, AllFit, IsWalk, ComesTo}
@@ -54,13 +55,6 @@ turned Greater p e f g = absurd (cc)
 
 one_way : (a b : FolderEntry) → IsBelow a b → IsBelow b a → ⊥
 one_way a b = turned (slice_cmp nat_cmp (entry_key a) (entry_key b)) (slice_cmp nat_cmp (entry_key b) (entry_key a)) (nat_list_cmp_total.antisymm (entry_key a) (entry_key b))
-
-less_or : (o p : Ordering) → o ≡ ordering_reverse p → is_lt p ≡ false → (o ≡ Equal → ⊥) → o ≡ Less
-less_or Less p e h n = refl
-less_or Equal p e h n = absurd (n refl)
-less_or Greater Less e h n = absurd (cc)
-less_or Greater Equal e h n = absurd (cc)
-less_or Greater Greater e h n = absurd (cc)
 
 below : (a b : FolderEntry) → Plain a.name → Plain b.name → a.name ≢ b.name → lt_keys b a ≡ false → IsBelow a b
 below a b pa pb apart h =

@@ -9,7 +9,7 @@ use Rattle.swh_dirload.specs.declared.fault.DirFault.{DirFault}
 use Rattle.swh_dirload.specs.declared.fault.DirFault.TheVariants.{OtherKind, BadModes, Limit, ReadFault, Memory}
 use Rattle.swh_dirload.specs.declared.found.Found.{Found}
 use Rattle.swh_dirload.specs.declared.limits.TheConstants.{FILES_LIMIT}
-use Rattle.swh_dirmade.specs.declared.place.Place.{Place}
+use Rattle.swh_dirmade.specs.declared.member.Member.{Member}
 use Rattle.swh_dirload.specs.Found.{path_in, item_under, paths_behind, items_behind, paths_of, items_of, ArePlaced}
 use Rattle.swh_dirload.specs.Items.{Item, Fits}
 use Rattle.swh_dirload.specs.Walk.{AllFit}
@@ -35,7 +35,7 @@ pub fits_at : (found : List Found) (k : ℕ) (d : Found) → AllFit (items_of fo
 fits_at found k d fit lt = let around = items_around [] found k d lt in (fits_middle (items_of (take k found)) (item_under (paths_of (take k found)) (get_or found k d)) around.0 (subst AllFit around.1 fit)).0
 
 module _ (id : Kind → List ℕ → List ℕ) (tree : Tree) where
-  reads_push : (at : ℕ) (old : List Entry) (items : List Item) (places : List Place) (mid : ℕ) (given : List Entry) (item : Item) (count : ℕ) (place : Place) (new : List Entry) → ReadsAll id tree at old items places mid given → IsRead id tree item.0 item.1 count given place new → mid + count ≤ FILES_LIMIT → ReadsAll id tree at old (items ++ item ∷ []) (places ++ place ∷ []) (mid + count) new
+  reads_push : (at : ℕ) (old : List Entry) (items : List Item) (places : List Member) (mid : ℕ) (given : List Entry) (item : Item) (count : ℕ) (place : Member) (new : List Entry) → ReadsAll id tree at old items places mid given → IsRead id tree item.0 item.1 count given place new → mid + count ≤ FILES_LIMIT → ReadsAll id tree at old (items ++ item ∷ []) (places ++ place ∷ []) (mid + count) new
   reads_push at old [] [] mid given item count place new h read within =
       let here : IsRead id tree item.0 item.1 count old place new = subst (λ (es : List Entry). IsRead id tree item.0 item.1 count es place new) (sym h.1) read in
       let e = h.0 in
@@ -45,7 +45,7 @@ module _ (id : Kind → List ℕ → List ℕ) (tree : Tree) where
   reads_push at old (i ∷ items) (p ∷ places) mid given item count place new h read within =
       (h.0, h.1, h.2, h.3, reads_push (at + h.0) h.1 items places mid given item count place new h.4 read within)
 
-  pub reads_more : (old : List Entry) (found : List Found) (k : ℕ) (d : Found) (places : List Place) (mid now : ℕ) (given : List Entry) (path : List ℕ) (place : Place) (new : List Entry) → k < length found → path ≡ path_in (paths_of (take k found)) (get_or found k d) → ReadsAll id tree 0 old (items_of (take k found)) places mid given → ((count : ℕ) × (now ≡ mid + count) × IsRead id tree path (get_or found k d).what count given place new) → now ≤ FILES_LIMIT → ReadsAll id tree 0 old (items_of (take (k + 1) found)) (places ++ place ∷ []) now new
+  pub reads_more : (old : List Entry) (found : List Found) (k : ℕ) (d : Found) (places : List Member) (mid now : ℕ) (given : List Entry) (path : List ℕ) (place : Member) (new : List Entry) → k < length found → path ≡ path_in (paths_of (take k found)) (get_or found k d) → ReadsAll id tree 0 old (items_of (take k found)) places mid given → ((count : ℕ) × (now ≡ mid + count) × IsRead id tree path (get_or found k d).what count given place new) → now ≤ FILES_LIMIT → ReadsAll id tree 0 old (items_of (take (k + 1) found)) (places ++ place ∷ []) now new
   reads_more old found k d places mid now given path place new lt named h read within =
       let item = item_under (paths_of (take k found)) (get_or found k d) in
       let count = read.0 in
@@ -55,7 +55,7 @@ module _ (id : Kind → List ℕ → List ℕ) (tree : Tree) where
       let items : items_of (take k found) ++ item ∷ [] ≡ items_of (take (k + 1) found) = sym (items_push [] (take k found) (get_or found k d)) ∙ ap items_of (sym (take_more found k d lt)) in
       subst (λ (n : ℕ). ReadsAll id tree 0 old (items_of (take (k + 1) found)) (places ++ place ∷ []) n new) (sym e) (subst (λ (is : List Item). ReadsAll id tree 0 old is (places ++ place ∷ []) (mid + count) new) items pushed)
 
-  pub stops_at : (old : List Entry) (found : List Found) (k : ℕ) (d : Found) (places : List Place) (at : ℕ) (given : List Entry) (path : List ℕ) (fault : DirFault) → k < length found → path ≡ path_in (paths_of (take k found)) (get_or found k d) → ReadsAll id tree 0 old (items_of (take k found)) places at given → ExplainsRead id tree at path (get_or found k d).what fault → ExplainsReading id tree old (items_of found) fault
+  pub stops_at : (old : List Entry) (found : List Found) (k : ℕ) (d : Found) (places : List Member) (at : ℕ) (given : List Entry) (path : List ℕ) (fault : DirFault) → k < length found → path ≡ path_in (paths_of (take k found)) (get_or found k d) → ReadsAll id tree 0 old (items_of (take k found)) places at given → ExplainsRead id tree at path (get_or found k d).what fault → ExplainsReading id tree old (items_of found) fault
   stops_at old found k d places at given path (OtherKind other) lt named h bad = bad
   stops_at old found k d places at given path (BadModes line) lt named h bad = bad
   stops_at old found k d places at given path (Limit which number) lt named h bad =

@@ -4,8 +4,8 @@ use Rattle.std.specs.List.{AllPairs, sum_by}
 use Rattle.std.proofs.lemmas.List.{length-map, get_or-map}
 use Rattle.std.proofs.lemmas.List.Sums.{sum_by-cons}
 use Rattle.swh_base.specs.Directory.{IsEntryName}
-use Rattle.swh_made.proofs.Elements.{contains_map, from_map}
-use Rattle.swh_dirmade.specs.declared.place.Place.{Place}
+use Rattle.swh_dedup.proofs.Elements.{contains_map, from_map}
+use Rattle.swh_dirmade.specs.declared.member.Member.{Member}
 use Rattle.swh_dirmade.specs.declared.spot.Spot.{Spot}
 use Rattle.swh_dirmade.specs.Directories.{Row, row_size, HasSize}
 use Rattle.swh_dirmade.specs.Numbers.{numbers_from}
@@ -18,19 +18,19 @@ use Rattle.swh_dirmade.proofs.SpotTables.{tree_of, entry_name}
 use Rattle.swh_dirmade.proofs.Trees.{parent}
 
 -- the row of a spot
-abbrev pub row_at : List Spot → List Place → ℕ → Row
+abbrev pub row_at : List Spot → List Member → ℕ → Row
 row_at spots standing number = (name_at spots number, place_at standing number)
 
-none_some : (p : Place) → None ≡ Some p → ⊥
+none_some : (p : Member) → None ≡ Some p → ⊥
 none_some p e = absurd (cc)
 
-sum_rows : (spots : List Spot) (standing : List Place) (ns : List ℕ) → sum_by (size_at spots standing) ns ≡ sum_by row_size (map (row_at spots standing) ns)
+sum_rows : (spots : List Spot) (standing : List Member) (ns : List ℕ) → sum_by (size_at spots standing) ns ≡ sum_by row_size (map (row_at spots standing) ns)
 sum_rows spots standing [] = refl
 sum_rows spots standing (n ∷ ns) =
     let rest = sum_rows spots standing ns in
     sum_by-cons (size_at spots standing) n ns ∙ ap (λ (s : ℕ). size_at spots standing n + s) rest ∙ sym (sum_by-cons row_size (row_at spots standing n) (map (row_at spots standing) ns))
 
-module _ (spots : List Spot) (standing : List Place) (table : IsTable spots) (places : Places) (stand : Stand spots standing places) where
+module _ (spots : List Spot) (standing : List Member) (table : IsTable spots) (places : Places) (stand : Stand spots standing places) where
   module _ (folder : ℕ) (within : folder < length spots) where
     rows_once : AllPairs (λ a b. a.0 ≢ b.0) (map (row_at spots standing) (numbers_from spots folder 1))
     rows_once = λ i j d lt high e.
@@ -53,7 +53,7 @@ module _ (spots : List Spot) (standing : List Place) (table : IsTable spots) (pl
         let named : name_at spots i ≡ row.0 = ap (λ (r : Row). r.0) f.2 in
         let stands : place_at standing i ≡ row.1 = ap (λ (r : Row). r.1) f.2 in
         let path : path_to spots i ≡ child (path_to spots folder) row.0 = (tree_of spots table).step i some b.1.0 ∙ ap (λ (a : ℕ). child (path_to spots a) (name_at spots i)) b.1.1 ∙ ap (child (path_to spots folder)) named in
-        (subst IsEntryName named (entry_name spots i table some b.1.0), ap places (sym path) ∙ stand.there i b.1.0 ∙ ap (λ (p : Place). Some p) stands)
+        (subst IsEntryName named (entry_name spots i table some b.1.0), ap places (sym path) ∙ stand.there i b.1.0 ∙ ap (λ (p : Member). Some p) stands)
 
     has_row : (row : Row) → IsEntryName row.0 × (places (child (path_to spots folder) row.0) ≡ Some row.1) → Contains (map (row_at spots standing) (numbers_from spots folder 1)) row
     has_row row h = elim (find spots (child (path_to spots folder) row.0)) [
@@ -64,7 +64,7 @@ module _ (spots : List Spot) (standing : List Place) (table : IsTable spots) (pl
           let some = up.0 in
           let high = n.1 in
           let stands : place_at standing i ≡ row.1 = the_place (place_at standing i) row.1 (sym (stand.there i n.1) ∙ ap places n.2 ∙ h.1) in
-          let is : row_at spots standing i ≡ row = ap (λ (name : List ℕ). let r : Row = (name, place_at standing i) in r) up.1.1 ∙ ap (λ (p : Place). let r : Row = (row.0, p) in r) stands in
+          let is : row_at spots standing i ≡ row = ap (λ (name : List ℕ). let r : Row = (name, place_at standing i) in r) up.1.1 ∙ ap (λ (p : Member). let r : Row = (row.0, p) in r) stands in
           let among : Contains (numbers_from spots folder 1) i = has_number spots folder 1 (length spots - 1) i (omega (arith, some)) (omega (arith, high)) up.1.0 in
           subst (Contains (map (row_at spots standing) (numbers_from spots folder 1))) is (contains_map (row_at spots standing) (numbers_from spots folder 1) i among)
     ]

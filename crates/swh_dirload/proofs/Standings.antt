@@ -12,8 +12,8 @@ use Rattle.swh_listing.specs.declared.listed.Mode.{Mode}
 use Rattle.swh_listing.specs.declared.listed.Mode.TheVariants.{Project}
 use Rattle.swh_dirload.specs.declared.lookup.Lookup.{Lookup}
 use Rattle.swh_dirload.specs.declared.lookup.Lookup.TheVariants.{Here, Free, Lost}
-use Rattle.swh_dirmade.specs.declared.place.Place.{Place}
-use Rattle.swh_dirmade.specs.declared.place.Place.TheVariants as stands
+use Rattle.swh_dirmade.specs.declared.member.Member.{Member}
+use Rattle.swh_dirmade.specs.declared.member.Member.TheVariants as stands
 use Rattle.swh_dirmade.specs.declared.spot.Spot.{Spot}
 use Rattle.swh_dirmade.specs.Paths.{child}
 use Rattle.swh_dirmade.specs.Spots.{Places, path_at, path_in, paths_of, path_to, above_at, name_at, place_at, IsPlaced, AreApart, AreNamed, AreNamedBehind, IsTable, IsFree, Stand}
@@ -23,13 +23,8 @@ use Rattle.swh_dirload.specs.Lines.{line_of}
 use Rattle.swh_dirmade.proofs.Paths.{child_injective, cut_above}
 use Rattle.swh_dirmade.proofs.Trees.{unique, parent, ancestor}
 use Rattle.swh_dirmade.proofs.SpotTables.{length_paths, paths_push, placed_push, above_is, name_is, tree_of}
+use Rattle.swh_dirmade.proofs.Directories.{some_none, the_place}
 use Rattle.swh_dirload.proofs.Indexes.{test_apart, index_step}
-
-some_none : (p : Place) → None ≡ Some p → ⊥
-some_none p e = absurd (cc)
-
-the_place : (p q : Place) → Some p ≡ Some q → p ≡ q
-the_place p q e = cc
 
 -- what is cut off has no path of the table
 cut_free : (spots : List Spot) (path : List ℕ) → IsTable spots → IsCutOff spots path → IsFree spots path
@@ -43,7 +38,7 @@ add_free spots path above name table may = λ k lt e.
     may.none k (record { behind = h.0; within = lt; inside = h.1.0; called = h.1.1 })
 
 -- a mode where no file stands that may get one
-pub mode_refused : (spots : List Spot) (standing : List Place) (before : Places) (path : List ℕ) (found : Lookup) → IsTable spots → Stand spots standing before → LooksUp spots path found → ((n : ℕ) → found ≡ Here n → (id : List ℕ) → place_at standing n ≡ stands.File 100644 id → ⊥) → (id : List ℕ) × (before path ≡ Some (stands.File 100644 id)) → ⊥
+pub mode_refused : (spots : List Spot) (standing : List Member) (before : Places) (path : List ℕ) (found : Lookup) → IsTable spots → Stand spots standing before → LooksUp spots path found → ((n : ℕ) → found ≡ Here n → (id : List ℕ) → place_at standing n ≡ stands.File 100644 id → ⊥) → (id : List ℕ) × (before path ≡ Some (stands.File 100644 id)) → ⊥
 mode_refused spots standing before path (Here n) table stand looks none may =
     let here : before path ≡ Some (place_at standing n) = ap before (sym looks.1) ∙ stand.there n looks.0 in
     none n refl may.0 (the_place (place_at standing n) (stands.File 100644 may.0) (sym here ∙ may.1))
@@ -60,22 +55,22 @@ taken_else : (before : Places) (m : Mode) (path p : List ℕ) → (p ≡ path �
 taken_else before m path p e = ap (λ (b : Bool). cond b (changed m (before p)) (before p)) (test_apart p path e)
 
 -- a mode where a file stands
-pub mode_may : (spots : List Spot) (standing : List Place) (before : Places) (path : List ℕ) (n : ℕ) (id : List ℕ) → Stand spots standing before → n < length spots → path_to spots n ≡ path → place_at standing n ≡ stands.File 100644 id → before path ≡ Some (stands.File 100644 id)
-mode_may spots standing before path n id stand lt here is = ap before (sym here) ∙ stand.there n lt ∙ ap (λ (p : Place). Some p) is
+pub mode_may : (spots : List Spot) (standing : List Member) (before : Places) (path : List ℕ) (n : ℕ) (id : List ℕ) → Stand spots standing before → n < length spots → path_to spots n ≡ path → place_at standing n ≡ stands.File 100644 id → before path ≡ Some (stands.File 100644 id)
+mode_may spots standing before path n id stand lt here is = ap before (sym here) ∙ stand.there n lt ∙ ap (λ (p : Member). Some p) is
 
-pub mode_taken : (spots : List Spot) (standing now : List Place) (before : Places) (m : Mode) (mode : ℕ) (path : List ℕ) (n : ℕ) (id : List ℕ) → IsTable spots → length standing ≡ length spots → Stand spots standing before → n < length spots → path_to spots n ≡ path → place_at standing n ≡ stands.File 100644 id → now ≡ set standing n (stands.File mode id) → changed m (Some (stands.File 100644 id)) ≡ Some (stands.File mode id) → Stand spots now (take before (line_of m path))
+pub mode_taken : (spots : List Spot) (standing now : List Member) (before : Places) (m : Mode) (mode : ℕ) (path : List ℕ) (n : ℕ) (id : List ℕ) → IsTable spots → length standing ≡ length spots → Stand spots standing before → n < length spots → path_to spots n ≡ path → place_at standing n ≡ stands.File 100644 id → now ≡ set standing n (stands.File mode id) → changed m (Some (stands.File 100644 id)) ≡ Some (stands.File mode id) → Stand spots now (take before (line_of m path))
 mode_taken spots standing now before m mode path n id table count stand lt here is sets changes = record { there = there; nowhere = nowhere }
   where
     by_test : (k : ℕ) → k < length spots → (b : Bool) → bytes_eq (path_to spots k) path ≡ b → take before (line_of m path) (path_to spots k) ≡ Some (place_at now k)
     by_test k kin true e =
         let same = (bytes_eq-Decides (path_to spots k) path).0 e in
         let number : n ≡ k = unique (length spots) (path_to spots) (above_at spots) (name_at spots) (tree_of spots table) n k lt kin (here ∙ sym same) in
-        let placed : place_at now n ≡ stands.File mode id = ap (λ (ps : List Place). place_at ps n) sets ∙ get_or-set_same standing n (stands.File mode id) stands.Folder (omega (arith, lt, count)) in
-        taken_there before m path (path_to spots k) same ∙ ap (λ (p : List ℕ). changed m (before p)) same ∙ ap (changed m) (mode_may spots standing before path n id stand lt here is) ∙ changes ∙ ap (λ (p : Place). Some p) (sym placed) ∙ ap (λ (j : ℕ). Some (place_at now j)) number
+        let placed : place_at now n ≡ stands.File mode id = ap (λ (ps : List Member). place_at ps n) sets ∙ get_or-set_same standing n (stands.File mode id) stands.Folder (omega (arith, lt, count)) in
+        taken_there before m path (path_to spots k) same ∙ ap (λ (p : List ℕ). changed m (before p)) same ∙ ap (changed m) (mode_may spots standing before path n id stand lt here is) ∙ changes ∙ ap (λ (p : Member). Some p) (sym placed) ∙ ap (λ (j : ℕ). Some (place_at now j)) number
     by_test k kin false e =
         let apart : path_to spots k ≡ path → ⊥ = λ same. let bad : false ≡ true = sym e ∙ (bytes_eq-Decides (path_to spots k) path).1 same in absurd (cc) in
         let other : k ≢ n = λ number. apart (ap (path_to spots) number ∙ here) in
-        taken_else before m path (path_to spots k) apart ∙ stand.there k kin ∙ ap (λ (p : Place). Some p) (sym (ap (λ (ps : List Place). place_at ps k) sets ∙ get_or-set_other standing n k (stands.File mode id) stands.Folder other))
+        taken_else before m path (path_to spots k) apart ∙ stand.there k kin ∙ ap (λ (p : Member). Some p) (sym (ap (λ (ps : List Member). place_at ps k) sets ∙ get_or-set_other standing n k (stands.File mode id) stands.Folder other))
 
     there : (k : ℕ) → k < length spots → take before (line_of m path) (path_to spots k) ≡ Some (place_at now k)
     there k kin = by_test k kin (bytes_eq (path_to spots k) path) refl
@@ -84,7 +79,7 @@ mode_taken spots standing now before m mode path n id table count stand lt here 
     nowhere p free = taken_else before m path p (λ same. free n lt (here ∙ sym same)) ∙ stand.nowhere p free
 
 -- a project's revision where none may come
-pub project_refused : (spots : List Spot) (standing : List Place) (before : Places) (path : List ℕ) (found : Lookup) → IsTable spots → Stand spots standing before → LooksUp spots path found → ((above : ℕ) (name : List ℕ) → found ≡ Free above name → place_at standing above ≡ stands.Folder → ⊥) → (before path ≡ None) × IsInFolder before path → ⊥
+pub project_refused : (spots : List Spot) (standing : List Member) (before : Places) (path : List ℕ) (found : Lookup) → IsTable spots → Stand spots standing before → LooksUp spots path found → ((above : ℕ) (name : List ℕ) → found ≡ Free above name → place_at standing above ≡ stands.Folder → ⊥) → (before path ≡ None) × IsInFolder before path → ⊥
 project_refused spots standing before path (Here n) table stand looks none may =
     some_none (place_at standing n) (sym may.0 ∙ ap before (sym looks.1) ∙ stand.there n looks.0)
 project_refused spots standing before path (Free above name) table stand looks none may =
@@ -101,7 +96,7 @@ project_refused spots standing before path Lost table stand looks none may =
           some_none stands.Folder (sym (stand.nowhere inside.dir (cut_free spots inside.dir table deeper)) ∙ inside.folder)
     ]
 
-pub project_may : (spots : List Spot) (standing : List Place) (before : Places) (path : List ℕ) (above : ℕ) (name : List ℕ) → IsTable spots → Stand spots standing before → MayAdd spots path above name → place_at standing above ≡ stands.Folder → (before path ≡ None) × IsInFolder before path
+pub project_may : (spots : List Spot) (standing : List Member) (before : Places) (path : List ℕ) (above : ℕ) (name : List ℕ) → IsTable spots → Stand spots standing before → MayAdd spots path above name → place_at standing above ≡ stands.Folder → (before path ≡ None) × IsInFolder before path
 project_may spots standing before path above name table stand may folder =
     let inside : IsInFolder before path = record {
       dir = path_to spots above;
@@ -109,7 +104,7 @@ project_may spots standing before path above name table stand may folder =
       cut = may.cut;
       some = may.named.not_empty;
       one = may.named.no_slash;
-      folder = stand.there above may.within ∙ ap (λ (p : Place). Some p) folder;
+      folder = stand.there above may.within ∙ ap (λ (p : Member). Some p) folder;
     } in
     (stand.nowhere path (add_free spots path above name table may), inside)
 
@@ -187,7 +182,7 @@ index_push spots next entries entries_now number table small some index is added
     subst (λ (k : ℕ). IsIndexTo all k entries_now) (sym n) stepped
 
 -- what stands once a project's revision was added
-pub project_taken : (spots : List Spot) (standing : List Place) (before : Places) (path : List ℕ) (id : List ℕ) (next : Spot) → IsTable spots → length standing ≡ length spots → Stand spots standing before → MayAdd spots path next.above next.name → Stand (spots ++ next ∷ []) (standing ++ stands.Project id ∷ []) (take before (line_of (Project id) path))
+pub project_taken : (spots : List Spot) (standing : List Member) (before : Places) (path : List ℕ) (id : List ℕ) (next : Spot) → IsTable spots → length standing ≡ length spots → Stand spots standing before → MayAdd spots path next.above next.name → Stand (spots ++ next ∷ []) (standing ++ stands.Project id ∷ []) (take before (line_of (Project id) path))
 project_taken spots standing before path id next table count stand may = record { there = there; nowhere = nowhere }
   where
     more : length (spots ++ next ∷ []) ≡ length spots + 1
@@ -203,11 +198,11 @@ project_taken spots standing before path id next table count stand may = record 
     there k lt = elim (cases_lt k (length spots)) [
       | inl l ↦
           let free : path_to spots k ≡ path → ⊥ = add_free spots path next.above next.name table may k l in
-          ap (take before (line_of (Project id) path)) (path_kept spots next k l) ∙ taken_else before (Project id) path (path_to spots k) free ∙ stand.there k l ∙ ap (λ (p : Place). Some p) (sym (get_or_append_left standing (stands.Project id ∷ []) stands.Folder k (omega (arith, l, count))))
+          ap (take before (line_of (Project id) path)) (path_kept spots next k l) ∙ taken_else before (Project id) path (path_to spots k) free ∙ stand.there k l ∙ ap (λ (p : Member). Some p) (sym (get_or_append_left standing (stands.Project id ∷ []) stands.Folder k (omega (arith, l, count))))
       | inr l ↦
           let same : length spots ≡ k = omega (arith, l, lt, more) in
           subst (λ (j : ℕ). take before (line_of (Project id) path) (path_to (spots ++ next ∷ []) j) ≡ Some (place_at (standing ++ stands.Project id ∷ []) j)) same
-          (taken_there before (Project id) path (path_to (spots ++ next ∷ []) (length spots)) here ∙ ap (λ (p : Place). Some p) (sym placed))
+          (taken_there before (Project id) path (path_to (spots ++ next ∷ []) (length spots)) here ∙ ap (λ (p : Member). Some p) (sym placed))
     ]
 
     nowhere : (p : List ℕ) → IsFree (spots ++ next ∷ []) p → take before (line_of (Project id) path) p ≡ None

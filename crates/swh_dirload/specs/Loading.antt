@@ -8,8 +8,8 @@ use Rattle.swh_base.specs.Directory.{DirectoryEntry}
 use Rattle.swh_base.specs.Snapshot.{IsSnapshot}
 use Rattle.swh_outside.specs.Folder.{Tree}
 use Rattle.swh_model.specs.Meaning.{Made}
-use Rattle.swh_made.specs.Making.{made, object_of}
-use Rattle.swh_dirmade.specs.declared.place.Place.{Place}
+use Rattle.swh_dedup.specs.Making.{made, object_of}
+use Rattle.swh_dirmade.specs.declared.member.Member.{Member}
 use Rattle.swh_dirmade.specs.declared.spot.Spot.{Spot}
 use Rattle.swh_dirmade.specs.Directories.{AreDirectories, IsDirectoryOf, directory_id}
 use Rattle.swh_dirmade.specs.Sizes.{IsFirstLong}
@@ -25,7 +25,7 @@ use Rattle.swh_dirload.specs.Reading.{ReadsAll}
 use Rattle.swh_dirload.specs.Walk.{IsWalk}
 
 -- The table has all that stands in the folder, by its walk, and the contents of its files are given.
-pub record HasTable (id : Kind → List ℕ → List ℕ) (tree : Tree) (spots : List Spot) (standing : List Place) (contents : List Entry) : Type 0 where
+pub record HasTable (id : Kind → List ℕ → List ℕ) (tree : Tree) (spots : List Spot) (standing : List Member) (contents : List Entry) : Type 0 where
   pub items : List Item
   pub total : ℕ
   pub walk : IsWalk tree items
@@ -35,7 +35,7 @@ pub record HasTable (id : Kind → List ℕ → List ℕ) (tree : Tree) (spots :
   pub stand : Stand spots standing (places_of items standing)
 
 -- Why the lengths of a table's directories are refused: one is longer than a body may be. Of want of memory nothing is said.
-abbrev pub ExplainsLength : List Spot → List Place → DirFault → Type 0
+abbrev pub ExplainsLength : List Spot → List Member → DirFault → Type 0
 ExplainsLength spots standing (OtherKind path) = ⊥
 ExplainsLength spots standing (BadModes line) = ⊥
 ExplainsLength spots standing (Limit which number) = (which ≡ Body) × IsFirstLong spots standing number
@@ -43,7 +43,7 @@ ExplainsLength spots standing ReadFault = ⊥
 ExplainsLength spots standing Memory = Unit {0}
 
 -- After all lines of the listing a directory is longer than a body may be, which went on from the old table.
-pub record IsLongAfter (before : Places) (text : List ℕ) (spots : List Spot) (standing : List Place) (spots_now : List Spot) (standing_now : List Place) (fault : DirFault) : Type 0 where
+pub record IsLongAfter (before : Places) (text : List ℕ) (spots : List Spot) (standing : List Member) (spots_now : List Spot) (standing_now : List Member) (fault : DirFault) : Type 0 where
   pub taken : AreTaken before text spots_now standing_now
   pub goes : GoesOn spots standing spots_now standing_now
   pub table : IsTable spots_now

@@ -12,11 +12,11 @@ use Rattle.swh_base.specs.Snapshot.{IsSnapshot}
 use Rattle.swh_outside.specs.Folder.{Tree}
 use Rattle.swh_outside.specs.declared.folder.What.TheVariants as item
 use Rattle.swh_model.specs.Meaning.{Made}
-use Rattle.swh_made.specs.Making.{made, object_of}
-use Rattle.swh_made.specs.Giving.{AreNew}
+use Rattle.swh_dedup.specs.Making.{made, object_of}
+use Rattle.swh_dedup.specs.Giving.{AreNew}
 use Rattle.swh_listing.specs.declared.listed.Listed.{Listed}
 use Rattle.swh_listing.specs.Listing.{IsListing}
-use Rattle.swh_dirmade.specs.declared.place.Place.{Place}
+use Rattle.swh_dirmade.specs.declared.member.Member.{Member}
 use Rattle.swh_dirmade.specs.Spots.{Places}
 use Rattle.swh_dirmade.specs.Directories.{AreDirectories, IsDirectoryOf, HasSize, directory_id}
 use Rattle.swh_dirmade.specs.Snapshots.{head}
@@ -45,7 +45,7 @@ pub record IsFirstLong (places : Places) (items : List Item) (size : ℕ) : Type
 module _ (id : Kind → List ℕ → List ℕ) (tree : Tree) where
   -- The folder is walked and its files are read: of these items this stands there, and these contents are given.
   pub record ReadsFolder (items : List Item) (places : Places) (contents : List Entry) : Type 0 where
-    pub found : List Place
+    pub found : List Member
     pub total : ℕ
     pub walk : IsWalk tree items
     pub reads : ReadsAll id tree 0 [] items found total contents

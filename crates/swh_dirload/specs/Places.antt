@@ -5,14 +5,14 @@ use Rattle.std.specs.Str.{bytes_eq}
 use Rattle.swh_listing.specs.declared.listed.Listed.{Listed}
 use Rattle.swh_listing.specs.declared.listed.Mode.{Mode}
 use Rattle.swh_listing.specs.declared.listed.Mode.TheVariants.{Executable, Link, Project}
-use Rattle.swh_dirmade.specs.declared.place.Place.{Place}
-use Rattle.swh_dirmade.specs.declared.place.Place.TheVariants as stands
+use Rattle.swh_dirmade.specs.declared.member.Member.{Member}
+use Rattle.swh_dirmade.specs.declared.member.Member.TheVariants as stands
 use Rattle.swh_dirmade.specs.Paths.{child}
 use Rattle.swh_dirmade.specs.Spots.{Places}
 use Rattle.swh_dirload.specs.Items.{Item}
 
 -- the places of the items of a walk, before a listing says more of them
-abbrev pub places_of : List Item → List Place → Places
+abbrev pub places_of : List Item → List Member → Places
 places_of [] places = λ path. None
 places_of (item ∷ items) [] = λ path. None
 places_of (item ∷ items) (place ∷ places) = λ path. cond (bytes_eq path item.0) (Some place) (places_of items places path)
@@ -34,14 +34,14 @@ MayTake places Link path = (id : List ℕ) × (places path ≡ Some (stands.File
 MayTake places (Project id) path = (places path ≡ None) × IsInFolder places path
 
 -- a file with another mode
-abbrev pub with_mode : ℕ → Option Place → Option Place
+abbrev pub with_mode : ℕ → Option Member → Option Member
 with_mode mode (Some (stands.File old id)) = Some (stands.File mode id)
 with_mode mode (Some stands.Folder) = Some stands.Folder
 with_mode mode (Some (stands.Project id)) = Some (stands.Project id)
 with_mode mode None = None
 
 -- what a line makes of what stands at its path
-abbrev pub changed : Mode → Option Place → Option Place
+abbrev pub changed : Mode → Option Member → Option Member
 changed Executable old = with_mode 100755 old
 changed Link old = with_mode 120000 old
 changed (Project id) old = Some (stands.Project id)

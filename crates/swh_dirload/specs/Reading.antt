@@ -10,12 +10,12 @@ use Rattle.swh_outside.specs.Folder.{Tree, bytes_at}
 use Rattle.swh_outside.specs.declared.folder.What.{What}
 use Rattle.swh_outside.specs.declared.folder.What.TheVariants.{File, Folder, Other}
 use Rattle.swh_model.specs.Meaning.{content}
-use Rattle.swh_made.specs.Making.{made_from}
+use Rattle.swh_dedup.specs.Making.{made_from}
 use Rattle.swh_dirload.specs.declared.fault.DirFault.{DirFault}
 use Rattle.swh_dirload.specs.declared.fault.DirFault.TheVariants.{OtherKind, BadModes, Limit, ReadFault, Memory}
 use Rattle.swh_dirload.specs.declared.limits.TheConstants.{FILES_LIMIT}
-use Rattle.swh_dirmade.specs.declared.place.Place.{Place}
-use Rattle.swh_dirmade.specs.declared.place.Place.TheVariants as stands
+use Rattle.swh_dirmade.specs.declared.member.Member.{Member}
+use Rattle.swh_dirmade.specs.declared.member.Member.TheVariants as stands
 use Rattle.swh_dirload.specs.Files.{IsTooLong}
 use Rattle.swh_dirmade.specs.Giving.{GivesOne}
 use Rattle.swh_dirload.specs.Items.{Item}
@@ -31,13 +31,13 @@ pub record HasFile (tree : Tree) (path bytes : List ℕ) : Type 0 where
 
 module _ (id : Kind → List ℕ → List ℕ) (tree : Tree) where
   -- What is read of an item: so many bytes, whose content is given.
-  abbrev pub IsRead : List ℕ → What → ℕ → List Entry → Place → List Entry → Type 0
+  abbrev pub IsRead : List ℕ → What → ℕ → List Entry → Member → List Entry → Type 0
   IsRead path File count old place new = (bytes : List ℕ) × HasFile tree path bytes × (length bytes ≡ count) × (place ≡ stands.File 100644 (id Content bytes)) × GivesContent old bytes new
   IsRead path Folder count old place new = (count ≡ 0) × (place ≡ stands.Folder) × (new ≡ old)
   IsRead path Other count old place new = ⊥
 
   -- The items are read, one after another, where so many bytes were read before.
-  abbrev pub ReadsAll : ℕ → List Entry → List Item → List Place → ℕ → List Entry → Type 0
+  abbrev pub ReadsAll : ℕ → List Entry → List Item → List Member → ℕ → List Entry → Type 0
   ReadsAll at old [] [] now new = (at ≡ now) × (old ≡ new)
   ReadsAll at old [] (place ∷ places) now new = ⊥
   ReadsAll at old (item ∷ items) [] now new = ⊥
@@ -71,7 +71,7 @@ module _ (id : Kind → List ℕ → List ℕ) (tree : Tree) where
     pub kind : What
     pub rest : List Item
     pub cut : items ≡ before ++ (path, kind) ∷ rest
-    pub places : List Place
+    pub places : List Member
     pub at : ℕ
     pub given : List Entry
     pub reads : ReadsAll 0 old before places at given

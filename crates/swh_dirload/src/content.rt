@@ -6,8 +6,8 @@ ghost use Rattle.swh_dirload.specs.Reading.{GivesContent};
 
 use std::alloc::Global;
 use swh_base::{Kind, Memory, Namer};
+use swh_dedup::{MakeFault, make_object};
 use swh_dirmade::Given;
-use swh_made::{MakeFault, make_object};
 
 /// Makes the content of these bytes, and tells its id.
 pub fn give_content<N: Namer>(

@@ -6,7 +6,7 @@ ghost use Rattle.swh_base.specs.declared.kind.Kind.TheVariants.{Snapshot};
 ghost use Rattle.swh_base.specs.Snapshot.{IsSnapshot};
 ghost use Rattle.swh_outside.specs.Folder.{Tree};
 ghost use Rattle.swh_model.specs.Meaning.{Made};
-ghost use Rattle.swh_made.specs.Making.{made};
+ghost use Rattle.swh_dedup.specs.Making.{made};
 ghost use Rattle.swh_dirload.specs.declared.fault.DirFault.{DirFault as Fault};
 ghost use Rattle.swh_dirload.specs.declared.limits.TheConstants.{FILES_LIMIT as most};
 ghost use Rattle.swh_dirload.specs.Items.{Item};

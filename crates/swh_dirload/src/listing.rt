@@ -14,7 +14,7 @@ use crate::fault::DirFault;
 use crate::taking::{Taken, take_line};
 use std::alloc::Global;
 use std::collections::BTreeMap;
-use swh_dirmade::{Place, Spot};
+use swh_dirmade::{Member, Spot};
 use swh_fastlex::Window;
 use swh_listing::next_listed;
 use swh_outside::Source;
@@ -28,7 +28,7 @@ use swh_outside::Source;
 pub fn take_lines<S: Source>(
     alloc: Global,
     spots: &mut Vec<Spot>,
-    places: &mut Vec<Place>,
+    places: &mut Vec<Member>,
     numbers: &mut BTreeMap<Vec<u8>, usize>,
     source: &mut S,
 ) -> Result<(), DirFault>

@@ -5,10 +5,10 @@ ghost use Rattle.swh_base.specs.declared.entry.Entry.{Entry};
 ghost use Rattle.swh_base.specs.declared.name.Name.{Name};
 ghost use Rattle.swh_outside.specs.Faults.{Rose};
 ghost use Rattle.swh_fastlex.specs.ReadOn.{IsQuietBut};
-ghost use Rattle.swh_made.specs.Giving.{AreNew};
-ghost use Rattle.swh_made.specs.Making.{made, names_of_made};
-ghost use Rattle.swh_made.specs.Whole.{HasAllThatIsReached};
-ghost use Rattle.swh_dirmade.specs.declared.place.Place.TheVariants.{Folder as AFolder};
+ghost use Rattle.swh_dedup.specs.Giving.{AreNew};
+ghost use Rattle.swh_dedup.specs.Making.{made, names_of_made};
+ghost use Rattle.swh_dedup.specs.Whole.{HasAllThatIsReached};
+ghost use Rattle.swh_dirmade.specs.declared.member.Member.TheVariants.{Folder as AFolder};
 ghost use Rattle.swh_dirmade.specs.Making.{IsHeld};
 ghost use Rattle.swh_dirmade.specs.Sizes.{AreShort};
 ghost use Rattle.swh_dirmade.specs.Spots.{Places, IsTable, Stand};
@@ -27,15 +27,15 @@ use crate::spot::spots_of;
 use crate::walking::walk;
 use std::alloc::Global;
 use swh_base::{Memory, Namer, Which};
-use swh_dirmade::{Given, Place, Spot, first_long, make_directories, make_snapshot};
-use swh_made::Objects;
+use swh_dedup::Objects;
+use swh_dirmade::{Given, Member, Spot, first_long, make_directories, make_snapshot};
 use swh_outside::{Folder, Source};
 
 /// What stands in a folder: its table, and what is under each number of it.
 #[derive(Drop)]
 pub struct Standing {
     pub spots: Vec<Spot>,
-    pub places: Vec<Place>,
+    pub places: Vec<Member>,
 }
 
 /// What stands in a folder, with the contents of its files.
@@ -93,7 +93,7 @@ pub fn name_standing<N: Namer, F: Folder>(
 }
 
 /// Refuses directories that are longer than a body may be.
-pub fn check_lengths(alloc: Global, spots: &[Spot], places: &[Place]) -> Result<(), DirFault>
+pub fn check_lengths(alloc: Global, spots: &[Spot], places: &[Member]) -> Result<(), DirFault>
     requires table { IsTable spots.now }
     requires count { length places.now ≡ length spots.now }
     ensures short { OnOk result (AreShort spots.now places.now) }
@@ -113,7 +113,7 @@ pub fn check_lengths(alloc: Global, spots: &[Spot], places: &[Place]) -> Result<
 fn take_listing<S: Source>(
     alloc: Global,
     spots: &mut Vec<Spot>,
-    places: &mut Vec<Place>,
+    places: &mut Vec<Member>,
     source: &mut S,
 ) -> Result<(), DirFault>
     requires table { IsTable spots.old.items }
@@ -148,7 +148,7 @@ fn make_objects<N: Namer>(
     alloc: Global,
     namer: &N,
     spots: &[Spot],
-    standing: &[Place],
+    standing: &[Member],
     given: Given<N>,
 ) -> Result<Objects<N>, Memory>
     requires table { IsTable spots.now }

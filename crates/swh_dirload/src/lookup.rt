@@ -7,9 +7,8 @@ ghost use Rattle.swh_dirload.specs.Index.{key_text, number_of, Adds, IsIndex, Is
 
 use std::alloc::Global;
 use std::collections::BTreeMap;
-use swh_base::{Bytes, Memory};
+use swh_base::{Bytes, Memory, split_at_byte};
 use swh_dirmade::Spot;
-use swh_pieces::split_at_byte;
 
 /// Where a path leads: to the spot of a number; to a name that the folder of a number does not have; or nowhere, since a
 /// folder on the way is not there.

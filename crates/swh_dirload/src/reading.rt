@@ -4,7 +4,7 @@ ghost use Rattle.swh_base.specs.declared.entry.Entry.{Entry};
 ghost use Rattle.swh_base.specs.declared.kind.Kind.{Kind as AKind};
 ghost use Rattle.swh_base.specs.Limits.{body_limit};
 ghost use Rattle.std.specs.List.{AllByRecursion};
-ghost use Rattle.swh_made.specs.Making.{made, names_of_made};
+ghost use Rattle.swh_dedup.specs.Making.{made, names_of_made};
 ghost use Rattle.swh_dirmade.specs.Giving.{Keeps};
 ghost use Rattle.swh_dirmade.specs.Making.{IsHeld};
 ghost use Rattle.swh_outside.specs.Faults.{Rose};
@@ -24,7 +24,7 @@ use crate::limits::FILES_LIMIT;
 use crate::path::path_of;
 use std::alloc::Global;
 use swh_base::{Kind, Namer, Which};
-use swh_dirmade::{Given, Place};
+use swh_dirmade::{Given, Member};
 use swh_outside::{Folder, What};
 
 /// The bytes of a file, where so many bytes were read before, and how many bytes are read now.
@@ -69,7 +69,7 @@ fn read_content<N: Namer, F: Folder>(
     path: &str,
     given: &mut Given<N>,
     total: u64,
-) -> Result<(Place, u64), DirFault>
+) -> Result<(Member, u64), DirFault>
     requires { total ≤ FILES_LIMIT }
     ensures read { F.tells → IfOk result (λ x. (count : ℕ) × (x.1 ≡ total + count)
         × IsRead N.id_of (F.holds folder.old) path.now AFile count given.old x.0 given.new) }
@@ -88,7 +88,7 @@ fn read_content<N: Namer, F: Folder>(
     let (bytes, now) = read_bytes(alloc, folder, path, total)?;
     let id = give_content(alloc, namer, given, bytes)?;
     let mode = 100_644;
-    Ok((Place::File { mode, id }, now))
+    Ok((Member::File { mode, id }, now))
 }
 
 /// Reads an item, where so many bytes were read before; what stands there, and how many bytes are read now.
@@ -100,7 +100,7 @@ fn read_item<N: Namer, F: Folder>(
     what: What,
     given: &mut Given<N>,
     total: u64,
-) -> Result<(Place, u64), DirFault>
+) -> Result<(Member, u64), DirFault>
     requires kind { what ≢ NeitherKind }
     requires within { total ≤ FILES_LIMIT }
     ensures read { F.tells → IfOk result (λ x. (count : ℕ) × (x.1 ≡ total + count)
@@ -119,7 +119,7 @@ fn read_item<N: Namer, F: Folder>(
 {
     match what {
         What::File => read_content(alloc, namer, folder, path, given, total),
-        What::Folder => Ok((Place::Folder, total)),
+        What::Folder => Ok((Member::Folder, total)),
         What::Other => unreachable!(),
     }
 }
@@ -136,7 +136,7 @@ pub fn read_files<N: Namer, F: Folder>(
     folder: &mut F,
     found: &[Found],
     given: &mut Given<N>,
-) -> Result<Vec<Place>, DirFault>
+) -> Result<Vec<Member>, DirFault>
     requires placed { ArePlaced 0 found.now }
     requires fit { AllFit (items_of found.now) }
     ensures read { F.tells → IfOk result (λ places. (total : ℕ)
@@ -174,7 +174,7 @@ fn name_content<N: Namer, F: Folder>(
     folder: &mut F,
     path: &str,
     total: u64,
-) -> Result<(Place, u64), DirFault>
+) -> Result<(Member, u64), DirFault>
     requires { total ≤ FILES_LIMIT }
     ensures read { F.tells → (old : List Entry) → IfOk result (λ x. (new : List Entry) × (count : ℕ) × (x.1 ≡ total + count)
         × IsRead N.id_of (F.holds folder.old) path.now AFile count old x.0 new) }
@@ -193,7 +193,7 @@ fn name_content<N: Namer, F: Folder>(
     let (bytes, now) = read_bytes(alloc, folder, path, total)?;
     let id = namer.id(Kind::Content, bytes.as_slice());
     let mode = 100_644;
-    Ok((Place::File { mode, id }, now))
+    Ok((Member::File { mode, id }, now))
 }
 
 /// Reads an item and names its content, where so many bytes were read before; what stands there, and how many bytes are
@@ -205,7 +205,7 @@ fn name_item<N: Namer, F: Folder>(
     path: &str,
     what: What,
     total: u64,
-) -> Result<(Place, u64), DirFault>
+) -> Result<(Member, u64), DirFault>
     requires kind { what ≢ NeitherKind }
     requires within { total ≤ FILES_LIMIT }
     ensures read { F.tells → (old : List Entry) → IfOk result (λ x. (new : List Entry) × (count : ℕ) × (x.1 ≡ total + count)
@@ -224,7 +224,7 @@ fn name_item<N: Namer, F: Folder>(
 {
     match what {
         What::File => name_content(alloc, namer, folder, path, total),
-        What::Folder => Ok((Place::Folder, total)),
+        What::Folder => Ok((Member::Folder, total)),
         What::Other => unreachable!(),
     }
 }
@@ -240,7 +240,7 @@ pub fn name_files<N: Namer, F: Folder>(
     namer: &N,
     folder: &mut F,
     found: &[Found],
-) -> Result<Vec<Place>, DirFault>
+) -> Result<Vec<Member>, DirFault>
     requires placed { ArePlaced 0 found.now }
     requires fit { AllFit (items_of found.now) }
     ensures read { F.tells → IfOk result (λ places. (contents : List Entry) × (total : ℕ)

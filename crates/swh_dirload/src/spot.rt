@@ -1,6 +1,6 @@
 //! The names of what stands in a folder, also by its listing.
 ghost use Rattle.std.specs.Prelude.{◌≡◌, ◌<◌, List, IfOk, length};
-ghost use Rattle.swh_dirmade.specs.declared.place.Place.{Place};
+ghost use Rattle.swh_dirmade.specs.declared.member.Member.{Member};
 ghost use Rattle.swh_dirload.specs.Found.{items_of, ArePlaced, AreNamedBehind, HavePaths};
 ghost use Rattle.swh_dirload.specs.Places.{places_of};
 ghost use Rattle.swh_dirmade.specs.Spots.{IsTable, Stand};
@@ -18,7 +18,7 @@ pub fn spots_of(alloc: Global, found: &[Found]) -> Result<Vec<Spot>, Memory>
     ensures table { IfOk result (λ spots. IsTable spots.items) }
     ensures count { IfOk result (λ spots. length spots.items ≡ length found.now) }
     ensures paths { IfOk result (λ spots. HavePaths spots.items (items_of found.now)) }
-    ensures stand { (standing : List Place) → length standing ≡ length found.now
+    ensures stand { (standing : List Member) → length standing ≡ length found.now
         → IfOk result (λ spots. Stand spots.items standing (places_of (items_of found.now) standing)) }
 {
     let mut spots = Vec::new(alloc);

@@ -7,7 +7,7 @@ ghost use Rattle.swh_dirmade.specs.Making.{IsHeld};
 ghost use Rattle.swh_fastlex.specs.Path.{IsPath};
 ghost use Rattle.swh_listing.specs.declared.listed.Mode.TheVariants.{Project as OfProject};
 ghost use Rattle.swh_dirload.specs.declared.lookup.Lookup.{Lookup as Leads};
-ghost use Rattle.swh_dirmade.specs.declared.place.Place.TheVariants.{File as AFile, Folder as AFolder};
+ghost use Rattle.swh_dirmade.specs.declared.member.Member.TheVariants.{File as AFile, Folder as AFolder};
 ghost use Rattle.swh_dirload.specs.Index.{IsIndex, HasNone, LooksUp};
 ghost use Rattle.swh_dirload.specs.Lines.{SetsMode, TakesMode, AddsProject, IsTaken, GoesOn};
 ghost use Rattle.swh_dirmade.specs.Spots.{Places, IsTable, Stand};
@@ -16,7 +16,7 @@ use crate::lookup::{Lookup, add_number, look_up};
 use std::alloc::Global;
 use std::collections::BTreeMap;
 use swh_base::{Bytes, Memory};
-use swh_dirmade::{Place, Spot};
+use swh_dirmade::{Member, Spot};
 use swh_fastlex::is_path;
 use swh_listing::{Listed, Mode};
 
@@ -28,27 +28,27 @@ pub enum Taken {
 }
 
 /// The id of a file that no line names.
-fn unnamed_id(place: Place) -> Option<[u8; 20]>
+fn unnamed_id(place: Member) -> Option<[u8; 20]>
     ensures some { IfSome result (λ id. place ≡ AFile 100644 id) }
     ensures none { IfNone result ((id : List ℕ) → place ≢ AFile 100644 id) }
 {
     match place {
-        Place::File { mode: 100_644, id } => Some(id),
-        Place::File { mode: _, id: _ } => None,
-        Place::Folder => None,
-        Place::Project(_) => None,
+        Member::File { mode: 100_644, id } => Some(id),
+        Member::File { mode: _, id: _ } => None,
+        Member::Folder => None,
+        Member::Project(_) => None,
     }
 }
 
 /// Gives the file at a number another mode, where no line named it.
-fn set_mode(places: &mut Vec<Place>, number: usize, mode: u32) -> Taken
+fn set_mode(places: &mut Vec<Member>, number: usize, mode: u32) -> Taken
     requires { number < length places.old.items }
     ensures { SetsMode places.old.items number mode places.new.items result }
 {
     let Some(id) = unnamed_id(places[number]) else {
         return Taken::No;
     };
-    places[number] = Place::File { mode, id };
+    places[number] = Member::File { mode, id };
     Taken::Yes
 }
 
@@ -56,7 +56,7 @@ fn set_mode(places: &mut Vec<Place>, number: usize, mode: u32) -> Taken
 fn take_mode(
     alloc: Global,
     spots: &[Spot],
-    places: &mut Vec<Place>,
+    places: &mut Vec<Member>,
     numbers: &BTreeMap<Vec<u8>, usize>,
     path: &[u8],
     mode: u32,
@@ -77,13 +77,13 @@ fn take_mode(
 }
 
 /// Whether a folder stands there.
-fn is_folder(place: Place) -> bool
+fn is_folder(place: Member) -> bool
     ensures { IsTrue result ↔ (place ≡ AFolder) }
 {
     match place {
-        Place::Folder => true,
-        Place::File { mode: _, id: _ } => false,
-        Place::Project(_) => false,
+        Member::Folder => true,
+        Member::File { mode: _, id: _ } => false,
+        Member::Project(_) => false,
     }
 }
 
@@ -91,7 +91,7 @@ fn is_folder(place: Place) -> bool
 fn add_project(
     alloc: Global,
     spots: &mut Vec<Spot>,
-    places: &mut Vec<Place>,
+    places: &mut Vec<Member>,
     numbers: &mut BTreeMap<Vec<u8>, usize>,
     above: usize,
     name: Bytes,
@@ -115,7 +115,7 @@ fn add_project(
     let number = spots.len();
     add_number(alloc, numbers, above, name.as_slice(), number)?;
     spots.push(Spot { above, name })?;
-    places.push(Place::Project(id))?;
+    places.push(Member::Project(id))?;
     Ok(Taken::Yes)
 }
 
@@ -123,7 +123,7 @@ fn add_project(
 fn take_project(
     alloc: Global,
     spots: &mut Vec<Spot>,
-    places: &mut Vec<Place>,
+    places: &mut Vec<Member>,
     numbers: &mut BTreeMap<Vec<u8>, usize>,
     path: &[u8],
     id: [u8; 20],
@@ -152,7 +152,7 @@ fn take_project(
 pub fn take_line(
     alloc: Global,
     spots: &mut Vec<Spot>,
-    places: &mut Vec<Place>,
+    places: &mut Vec<Member>,
     numbers: &mut BTreeMap<Vec<u8>, usize>,
     listed: &Listed,
 ) -> Result<Taken, Memory>

@@ -1,7 +1,7 @@
 // Folders in memory, laid out from tables.
 use std::alloc::{AllocError, Global};
 use std::sync::ArcSlice;
-use swh_memory_input::{MemoryFolder, Place, Stands};
+use swh_memory_input::{MemoryFolder, PathItem, Stands};
 use swh_outside::{Item, What};
 
 /// A name in a list, and what stands under it.
@@ -23,10 +23,10 @@ pub fn items_of(alloc: Global, list: &[Named]) -> Result<Vec<Item>, AllocError> 
     Ok(items)
 }
 
-pub fn listed_at(alloc: Global, path: &str, items: Vec<Item>) -> Result<Place, AllocError> {
+pub fn listed_at(alloc: Global, path: &str, items: Vec<Item>) -> Result<PathItem, AllocError> {
     let path = String::from_str(alloc, path)?;
     let stands = Stands::Folder(items);
-    Ok(Place { path, stands })
+    Ok(PathItem { path, stands })
 }
 
 /// A file of these bytes, which it gives in pieces of a size; the calls with these numbers fail.
@@ -36,7 +36,7 @@ pub fn file_at(
     bytes: Vec<u8>,
     piece: usize,
     failing: &[u64],
-) -> Result<Place, AllocError> {
+) -> Result<PathItem, AllocError> {
     let path = String::from_str(alloc, path)?;
     let failing = Vec::from_slice(alloc, failing)?;
     let stands = Stands::File {
@@ -44,12 +44,12 @@ pub fn file_at(
         piece,
         failing,
     };
-    Ok(Place { path, stands })
+    Ok(PathItem { path, stands })
 }
 
 pub fn folder_of(
     alloc: Global,
-    places: Vec<Place>,
+    places: Vec<PathItem>,
     failing: &[u64],
 ) -> Result<MemoryFolder, AllocError> {
     let path = String::from_str(alloc, "in")?;

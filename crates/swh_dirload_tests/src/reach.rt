@@ -3,8 +3,8 @@ use crate::plain::PlainFolder;
 use std::alloc::Global;
 use std::test::Fail;
 use swh_base::{ByteNamer, Kind, Which};
+use swh_dedup::Objects;
 use swh_dirload::{DirFault, load_folder};
-use swh_made::Objects;
 use swh_memory_input::MemorySource;
 
 /// Loads a folder of so many files of one length, and tells how many of their bytes were taken.

@@ -5,8 +5,8 @@ use std::alloc::{AllocError, Global};
 use std::test::Fail;
 use swh_base::{Kind, Name, Sha1Namer, Which};
 use swh_dirload::{DirFault, read_files, walk};
-use swh_dirmade::{Given, Place};
-use swh_memory_input::{MemoryFolder, Place as Laid};
+use swh_dirmade::{Given, Member};
+use swh_memory_input::{MemoryFolder, PathItem as Laid};
 use swh_outside::What;
 
 /// `hello` and an LF.
@@ -58,15 +58,15 @@ fn is_named(id: &[u8; 20], hex: &[u8; 40]) -> bool {
     }
 }
 
-fn stands(place: Place, wanted: Option<&[u8; 40]>) -> bool {
+fn stands(place: Member, wanted: Option<&[u8; 40]>) -> bool {
     match (place, wanted) {
-        (Place::File { mode: 100_644, id }, Some(hex)) => is_named(&id, hex),
-        (Place::Folder, None) => true,
+        (Member::File { mode: 100_644, id }, Some(hex)) => is_named(&id, hex),
+        (Member::Folder, None) => true,
         _ => false,
     }
 }
 
-fn all_stand(places: &[Place], wanted: &[Option<&[u8; 40]>]) -> bool {
+fn all_stand(places: &[Member], wanted: &[Option<&[u8; 40]>]) -> bool {
     places.len() == wanted.len() && places.iter().zip(wanted).all(|(a, b)| stands(*a, *b))
 }
 
@@ -79,7 +79,7 @@ fn are_contents(given: Given<Sha1Namer>, wanted: &[&[u8; 40]]) -> bool {
             .all(|(object, hex)| is_named(&object.name().id, hex))
 }
 
-fn ends_so(ended: Result<Vec<Place>, DirFault>, given: Given<Sha1Namer>, read: Read) -> bool {
+fn ends_so(ended: Result<Vec<Member>, DirFault>, given: Given<Sha1Namer>, read: Read) -> bool {
     match (ended, read) {
         (Ok(places), Finds(wanted, contents)) => {
             all_stand(places.as_slice(), wanted) && are_contents(given, contents)

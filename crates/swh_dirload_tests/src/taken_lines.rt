@@ -5,7 +5,7 @@ use std::alloc::{AllocError, Global};
 use std::test::Fail;
 use swh_base::{Sha1Namer, Which};
 use swh_dirload::{DirFault, index_of, read_files, spots_of, take_lines, walk};
-use swh_dirmade::{Given, Place, Spot};
+use swh_dirmade::{Given, Member, Spot};
 use swh_memory_input::{MemoryFolder, MemorySource};
 use swh_outside::What;
 
@@ -49,19 +49,19 @@ enum Taking {
 
 use Taking::*;
 
-fn has_mode(place: Place, wanted: u32) -> bool {
+fn has_mode(place: Member, wanted: u32) -> bool {
     match place {
-        Place::File { mode, id: _ } => mode == wanted,
-        Place::Folder => wanted == 40_000,
-        Place::Project(id) => wanted == 160_000 && id == ID,
+        Member::File { mode, id: _ } => mode == wanted,
+        Member::Folder => wanted == 40_000,
+        Member::Project(id) => wanted == 160_000 && id == ID,
     }
 }
 
-fn stands(spot: &Spot, place: Place, (above, name, mode): Standing) -> bool {
+fn stands(spot: &Spot, place: Member, (above, name, mode): Standing) -> bool {
     spot.above == above && spot.name.as_slice() == name && has_mode(place, mode)
 }
 
-fn all_stand(spots: &[Spot], places: &[Place], wanted: &[Standing]) -> bool {
+fn all_stand(spots: &[Spot], places: &[Member], wanted: &[Standing]) -> bool {
     spots.len() == wanted.len()
         && places.len() == wanted.len()
         && spots.iter().zip(places).zip(wanted).all(|((spot, place), standing)| stands(
@@ -69,7 +69,7 @@ fn all_stand(spots: &[Spot], places: &[Place], wanted: &[Standing]) -> bool {
         ))
 }
 
-fn ends_so(ended: Result<(), DirFault>, spots: &[Spot], places: &[Place], taking: Taking) -> bool {
+fn ends_so(ended: Result<(), DirFault>, spots: &[Spot], places: &[Member], taking: Taking) -> bool {
     match (ended, taking) {
         (Ok(()), Leaves(wanted)) => all_stand(spots, places, wanted),
         (Err(DirFault::BadModes { line }), IsBad(wanted)) => line == wanted,

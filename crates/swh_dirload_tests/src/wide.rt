@@ -3,8 +3,8 @@ use crate::folder::{file_at, folder_of, item_of, listed_at};
 use std::alloc::{AllocError, Global};
 use std::test::Fail;
 use swh_base::{Kind, Name, Sha1Namer, Which};
+use swh_dedup::Objects;
 use swh_dirload::{DirFault, load_folder};
-use swh_made::Objects;
 use swh_memory_input::{MemoryFolder, MemorySource};
 use swh_outside::What;
 

@@ -15,11 +15,11 @@ use Rattle.swh_base.specs.declared.name.Name.{Name}
 use Rattle.swh_base.specs.declared.entry.Entry.{Entry}
 use Rattle.swh_base.specs.Directory.{DirectoryEntry, IsEntry, IsEntryName, IsMode, AreEntries, directory_text, child_of}
 use Rattle.swh_model.specs.Meaning.{Made, directory}
-use Rattle.swh_made.specs.Making.{made_from, made, name_of, names_of_made}
-use Rattle.swh_made.proofs.Elements.{all_from, contains_map, from_map}
-use Rattle.swh_made.proofs.Givens.{more_names}
-use Rattle.swh_dirmade.specs.declared.place.Place.{Place}
-use Rattle.swh_dirmade.specs.declared.place.Place.TheVariants as stands
+use Rattle.swh_dedup.specs.Making.{made_from, made, name_of, names_of_made}
+use Rattle.swh_dedup.proofs.Elements.{all_from, contains_map, from_map}
+use Rattle.swh_dedup.proofs.Givens.{more_names}
+use Rattle.swh_dirmade.specs.declared.member.Member.{Member}
+use Rattle.swh_dirmade.specs.declared.member.Member.TheVariants as stands
 use Rattle.swh_dirmade.specs.declared.spot.Spot.{Spot}
 use Rattle.swh_dirmade.specs.Building.{list_at, entry_at, IsMade, IsOfNumber, AreBuilt, Builds}
 use Rattle.swh_dirmade.specs.Directories.{directory_id, entry_of}
@@ -67,24 +67,24 @@ the_name : (a b : Name) → Some a ≡ Some b → a ≡ b
 the_name a b e = cc
 
 -- a file stays held
-pub held_more : (names more : List Name) (place : Place) → ((n : Name) → Contains names n → Contains more n) → IsHeld names place → IsHeld more place
+pub held_more : (names more : List Name) (place : Member) → ((n : Name) → Contains names n → Contains more n) → IsHeld names place → IsHeld more place
 held_more names more (stands.File mode content) sub h = (h.0, sub (record { kind = Content; id = content }) h.1)
 held_more names more stands.Folder sub h = tt
 held_more names more (stands.Project revision) sub h = tt
 
 module _ (id : Kind → List ℕ → List ℕ) where
-  pub entry_name : (name : List ℕ) (below : List DirectoryEntry) (place : Place) → (entry_of id name below place).name ≡ name
+  pub entry_name : (name : List ℕ) (below : List DirectoryEntry) (place : Member) → (entry_of id name below place).name ≡ name
   entry_name name below (stands.File mode content) = refl
   entry_name name below stands.Folder = refl
   entry_name name below (stands.Project revision) = refl
 
   -- what the making of an entry adds
-  enters_grows : (name : List ℕ) (place : Place) (old : List Entry) (list : List DirectoryEntry) (new : List Entry) (below : List DirectoryEntry) → Enters id name place old list new below → (m : Made) → Contains (made old) m → Contains (made new) m
+  enters_grows : (name : List ℕ) (place : Member) (old : List Entry) (list : List DirectoryEntry) (new : List Entry) (below : List DirectoryEntry) → Enters id name place old list new below → (m : Made) → Contains (made old) m → Contains (made new) m
   enters_grows name (stands.File mode content) old list new below h m c = subst (λ (es : List Entry). Contains (made es) m) (sym h) c
   enters_grows name stands.Folder old list new below h m c = grows old new h.object h.gives m c
   enters_grows name (stands.Project revision) old list new below h m c = subst (λ (es : List Entry). Contains (made es) m) (sym h) c
 
-  enters_only : (name : List ℕ) (place : Place) (old : List Entry) (list : List DirectoryEntry) (new : List Entry) (below : List DirectoryEntry) → Enters id name place old list new below → (m : Made) → Contains (made new) m → Contains (made old) m ⊎ ((place ≡ stands.Folder) × (m ≡ directory (directory_text below)))
+  enters_only : (name : List ℕ) (place : Member) (old : List Entry) (list : List DirectoryEntry) (new : List Entry) (below : List DirectoryEntry) → Enters id name place old list new below → (m : Made) → Contains (made new) m → Contains (made old) m ⊎ ((place ≡ stands.Folder) × (m ≡ directory (directory_text below)))
   enters_only name (stands.File mode content) old list new below h m c = inl (subst (λ (es : List Entry). Contains (made es) m) h c)
   enters_only name stands.Folder old list new below h m c = elim (given_only old new h.object h.gives m c) [
     | inl d ↦ inl d
@@ -92,11 +92,11 @@ module _ (id : Kind → List ℕ → List ℕ) where
   ]
   enters_only name (stands.Project revision) old list new below h m c = inl (subst (λ (es : List Entry). Contains (made es) m) h c)
 
-  enters_folder : (name : List ℕ) (place : Place) (old : List Entry) (list : List DirectoryEntry) (new : List Entry) (below : List DirectoryEntry) → place ≡ stands.Folder → Enters id name place old list new below → GivesDirectory id old list new below (directory_id id below)
-  enters_folder name place old list new below e h = subst (λ (p : Place). Enters id name p old list new below) e h
+  enters_folder : (name : List ℕ) (place : Member) (old : List Entry) (list : List DirectoryEntry) (new : List Entry) (below : List DirectoryEntry) → place ≡ stands.Folder → Enters id name place old list new below → GivesDirectory id old list new below (directory_id id below)
+  enters_folder name place old list new below e h = subst (λ (p : Member). Enters id name p old list new below) e h
 
   -- the entry that is made is ready
-  pub made_ready : (names : List Name) (name : List ℕ) (place : Place) (old : List Entry) (list : List DirectoryEntry) (new : List Entry) (below : List DirectoryEntry) → ((n : Name) → Contains names n → Contains (names_of_made id (made new)) n) → IsHeld names place → Enters id name place old list new below → (kid : Name) → child_of (entry_of id name below place) ≡ Some kid → Contains (names_of_made id (made new)) kid
+  pub made_ready : (names : List Name) (name : List ℕ) (place : Member) (old : List Entry) (list : List DirectoryEntry) (new : List Entry) (below : List DirectoryEntry) → ((n : Name) → Contains names n → Contains (names_of_made id (made new)) n) → IsHeld names place → Enters id name place old list new below → (kid : Name) → child_of (entry_of id name below place) ≡ Some kid → Contains (names_of_made id (made new)) kid
   made_ready names name (stands.File mode content) old list new below sub held h kid e = by_mode held.0
     where
       content_is : child_of (record { mode = 100644; name = name; id = content }) ≡ Some (record { kind = Content; id = content })
@@ -127,10 +127,10 @@ module _ (id : Kind → List ℕ → List ℕ) where
   file_mode mode (inr (inr e)) = inr (inr (inl e))
 
   -- the entry of a file
-  pub makes_file : (names : List Name) (name : List ℕ) (mode : ℕ) (content : List ℕ) (place : Place) (old : List Entry) (list : List DirectoryEntry) (entry : DirectoryEntry) → place ≡ stands.File mode content → IsHeld names place → IsEntryName name → entry.mode ≡ mode → entry.name ≡ name → entry.id ≡ content → length entry.id ≡ 20 → MakesEntry id name place old list old entry
+  pub makes_file : (names : List Name) (name : List ℕ) (mode : ℕ) (content : List ℕ) (place : Member) (old : List Entry) (list : List DirectoryEntry) (entry : DirectoryEntry) → place ≡ stands.File mode content → IsHeld names place → IsEntryName name → entry.mode ≡ mode → entry.name ≡ name → entry.id ≡ content → length entry.id ≡ 20 → MakesEntry id name place old list old entry
   makes_file names name mode content place old list entry is held named m n i twenty =
       let h : IsHeld names (stands.File mode content) = subst (IsHeld names) is held in
-      subst (λ (p : Place). MakesEntry id name p old list old entry) (sym is) (record {
+      subst (λ (p : Member). MakesEntry id name p old list old entry) (sym is) (record {
         below = [];
         is = same_entry entry (entry_of id name [] (stands.File mode content)) m n i;
         good = record { mode = subst IsMode (sym m) (file_mode mode h.0); name = subst IsEntryName (sym n) named; id = twenty };
@@ -138,9 +138,9 @@ module _ (id : Kind → List ℕ → List ℕ) where
       })
 
   -- the entry of a folder, whose directory was made
-  pub makes_folder : (name : List ℕ) (place : Place) (old : List Entry) (list : List DirectoryEntry) (new : List Entry) (below : List DirectoryEntry) (root : List ℕ) (entry : DirectoryEntry) → place ≡ stands.Folder → IsEntryName name → GivesDirectory id old list new below root → entry.mode ≡ 40000 → entry.name ≡ name → entry.id ≡ root → MakesEntry id name place old list new entry
+  pub makes_folder : (name : List ℕ) (place : Member) (old : List Entry) (list : List DirectoryEntry) (new : List Entry) (below : List DirectoryEntry) (root : List ℕ) (entry : DirectoryEntry) → place ≡ stands.Folder → IsEntryName name → GivesDirectory id old list new below root → entry.mode ≡ 40000 → entry.name ≡ name → entry.id ≡ root → MakesEntry id name place old list new entry
   makes_folder name place old list new below root entry is named gives m n i =
-      subst (λ (p : Place). MakesEntry id name p old list new entry) (sym is) (record {
+      subst (λ (p : Member). MakesEntry id name p old list new entry) (sym is) (record {
         below = below;
         is = same_entry entry (entry_of id name below stands.Folder) m n (i ∙ gives.named);
         good = record { mode = inr (inr (inr (inl m))); name = subst IsEntryName (sym n) named; id = ap length i ∙ gives.twenty };
@@ -148,16 +148,16 @@ module _ (id : Kind → List ℕ → List ℕ) where
       })
 
   -- the entry of a project
-  pub makes_project : (name revision : List ℕ) (place : Place) (old : List Entry) (list : List DirectoryEntry) (entry : DirectoryEntry) → place ≡ stands.Project revision → IsEntryName name → entry.mode ≡ 160000 → entry.name ≡ name → entry.id ≡ revision → length entry.id ≡ 20 → MakesEntry id name place old list old entry
+  pub makes_project : (name revision : List ℕ) (place : Member) (old : List Entry) (list : List DirectoryEntry) (entry : DirectoryEntry) → place ≡ stands.Project revision → IsEntryName name → entry.mode ≡ 160000 → entry.name ≡ name → entry.id ≡ revision → length entry.id ≡ 20 → MakesEntry id name place old list old entry
   makes_project name revision place old list entry is named m n i twenty =
-      subst (λ (p : Place). MakesEntry id name p old list old entry) (sym is) (record {
+      subst (λ (p : Member). MakesEntry id name p old list old entry) (sym is) (record {
         below = [];
         is = same_entry entry (entry_of id name [] (stands.Project revision)) m n i;
         good = record { mode = inr (inr (inr (inr m))); name = subst IsEntryName (sym n) named; id = twenty };
         enters = refl;
       })
 
-  module _ (spots : List Spot) (standing : List Place) (table : IsTable spots) where
+  module _ (spots : List Spot) (standing : List Member) (table : IsTable spots) where
     apart : (i m : ℕ) → m < i → i < length spots → path_to spots i ≡ path_to spots m → ⊥
     apart i m low high e = let same = unique (length spots) (path_to spots) (above_at spots) (name_at spots) (tree_of spots table) i m high (omega (arith, low, high)) e in omega (arith, same, low)
 
@@ -340,7 +340,7 @@ module _ (id : Kind → List ℕ → List ℕ) where
         size_sum = sum_by (size_at spots standing)
 
     -- what is held by what was given at first
-    pub held_now : (from : ℕ) (lists : List (List DirectoryEntry)) (old mid : List Entry) (k : ℕ) (d : Place) → AllByRecursion (IsHeld (names_of_made id (made old))) standing → Builds id spots standing from lists old mid → k < length standing → IsHeld (names_of_made id (made mid)) (get_or standing k d)
+    pub held_now : (from : ℕ) (lists : List (List DirectoryEntry)) (old mid : List Entry) (k : ℕ) (d : Member) → AllByRecursion (IsHeld (names_of_made id (made old))) standing → Builds id spots standing from lists old mid → k < length standing → IsHeld (names_of_made id (made mid)) (get_or standing k d)
     held_now from lists old mid k d held built lt = held_more (names_of_made id (made old)) (names_of_made id (made mid)) (get_or standing k d) (λ n c. more_names id (made old) (made mid) n built.are.kept c) (held_at (IsHeld (names_of_made id (made old))) standing k d held lt)
 
     pub last_list : (front : List (List DirectoryEntry)) (list : List DirectoryEntry) (m : ℕ) → length front ≡ m → list_at (front ++ list ∷ []) m ≡ list
@@ -353,7 +353,7 @@ module _ (id : Kind → List ℕ → List ℕ) where
         subst (MayBeDirectory (names_of_made id (made mid))) here (may_be names m lists old mid held count short (subst (λ (n : ℕ). Builds id spots standing n lists old mid) long built) folder)
 
     -- one more spot, whose entry is added to the list of its folder
-    pub put_built : (m : ℕ) (lists front : List (List DirectoryEntry)) (list : List DirectoryEntry) (later : List (List DirectoryEntry)) (old mid new : List Entry) (spot : Spot) (place : Place) (entry : DirectoryEntry) → 0 < m → length lists ≡ suc m → lists ≡ front ++ list ∷ [] → length front ≡ m → Builds id spots standing (length lists) lists old mid
+    pub put_built : (m : ℕ) (lists front : List (List DirectoryEntry)) (list : List DirectoryEntry) (later : List (List DirectoryEntry)) (old mid new : List Entry) (spot : Spot) (place : Member) (entry : DirectoryEntry) → 0 < m → length lists ≡ suc m → lists ≡ front ++ list ∷ [] → length front ≡ m → Builds id spots standing (length lists) lists old mid
         → IsSpotAt spots m spot → place ≡ place_at standing m → IsHeld (names_of_made id (made mid)) place → MakesEntry id spot.name place mid list new entry → later ≡ set front spot.above (list_at front spot.above ++ entry ∷ []) → length later ≡ m → Builds id spots standing m later old new
     put_built m lists front list later old mid new spot place entry some long cut front_is built at place_is held makes put count =
         let built_m = subst (λ (n : ℕ). Builds id spots standing n lists old mid) long built in
@@ -363,7 +363,7 @@ module _ (id : Kind → List ℕ → List ℕ) where
         let lt : m < length spots = omega (arith, w) in
         let here : list_at lists m ≡ list = ap (λ (ls : List (List DirectoryEntry)). list_at ls m) cut ∙ last_list front list m front_is in
         let makes_list : MakesEntry id spot.name place mid (list_at lists m) new entry = subst (λ (l : List DirectoryEntry). MakesEntry id spot.name place mid l new entry) (sym here) makes in
-        let makes_place : MakesEntry id spot.name (place_at standing m) mid (list_at lists m) new entry = subst (λ (p : Place). MakesEntry id spot.name p mid (list_at lists m) new entry) place_is makes_list in
+        let makes_place : MakesEntry id spot.name (place_at standing m) mid (list_at lists m) new entry = subst (λ (p : Member). MakesEntry id spot.name p mid (list_at lists m) new entry) place_is makes_list in
         let makes_m : MakesEntry id (name_at spots m) (place_at standing m) mid (list_at lists m) new entry = subst (λ (n : List ℕ). MakesEntry id n (place_at standing m) mid (list_at lists m) new entry) at.name makes_place in
         let held_m : IsHeld (names_of_made id (made mid)) (place_at standing m) = subst (IsHeld (names_of_made id (made mid))) place_is held in
         let below = makes_m.below in

@@ -10,10 +10,10 @@ use Rattle.swh_base.specs.Directory.{DirectoryEntry, IsEntryName, AreEntries, di
 use Rattle.swh_base.specs.declared.kind.Kind.TheVariants.{Directory}
 use Rattle.swh_object.specs.Object.{IsObject}
 use Rattle.swh_model.specs.Meaning.{Made, directory}
-use Rattle.swh_made.specs.Making.{made, name_of, names_of_made}
-use Rattle.swh_made.proofs.Elements.{contains_map, from_map}
-use Rattle.swh_dirmade.specs.declared.place.Place.{Place}
-use Rattle.swh_dirmade.specs.declared.place.Place.TheVariants as stands
+use Rattle.swh_dedup.specs.Making.{made, name_of, names_of_made}
+use Rattle.swh_dedup.proofs.Elements.{contains_map, from_map}
+use Rattle.swh_dirmade.specs.declared.member.Member.{Member}
+use Rattle.swh_dirmade.specs.declared.member.Member.TheVariants as stands
 use Rattle.swh_dirmade.specs.declared.spot.Spot.{Spot}
 use Rattle.swh_dirmade.specs.Building.{list_at, entry_at, IsMade, AreBuilt, Builds}
 use Rattle.swh_dirmade.specs.Directories.{directory_id, entry_of, entry_for, IsEntryIn, AreDirectories, GivesDirectories}
@@ -26,13 +26,13 @@ use Rattle.swh_dirmade.proofs.Numbers.{bounds, has_number}
 use Rattle.swh_dirmade.proofs.SpotTables.{tree_of, entry_name as named_spot}
 use Rattle.swh_dirmade.proofs.Trees.{parent}
 
-some_none : (p : Place) → None ≡ Some p → ⊥
+pub some_none : (p : Member) → None ≡ Some p → ⊥
 some_none p e = absurd (cc)
 
 none_some : {X : Type 0} (x : X) → None ≡ Some x → ⊥
 none_some x e = absurd (cc)
 
-pub the_place : (p q : Place) → Some p ≡ Some q → p ≡ q
+pub the_place : (p q : Member) → Some p ≡ Some q → p ≡ q
 the_place p q e = cc
 
 the_entry : (p q : DirectoryEntry) → Some p ≡ Some q → p ≡ q
@@ -56,9 +56,9 @@ find_below spots path (suc count) le = elim (find_below spots path count (omega 
 pub find : (spots : List Spot) (path : List ℕ) → ((k : ℕ) × (k < length spots) × (path_to spots k ≡ path)) ⊎ IsFree spots path
 find spots path = find_below spots path (length spots) (omega arith)
 
-module _ (id : Kind → List ℕ → List ℕ) (spots : List Spot) (standing : List Place) (table : IsTable spots) (places : Places) (stand : Stand spots standing places) where
+module _ (id : Kind → List ℕ → List ℕ) (spots : List Spot) (standing : List Member) (table : IsTable spots) (places : Places) (stand : Stand spots standing places) where
   -- the number of what stands at a path
-  pub number_at : (path : List ℕ) (place : Place) → places path ≡ Some place → (k : ℕ) × (k < length spots) × ((path_to spots k ≡ path) × (place_at standing k ≡ place))
+  pub number_at : (path : List ℕ) (place : Member) → places path ≡ Some place → (k : ℕ) × (k < length spots) × ((path_to spots k ≡ path) × (place_at standing k ≡ place))
   number_at path place is = elim (find spots path) [
     | inl h ↦ (h.0, h.1, (h.2, the_place (place_at standing h.0) place (sym (stand.there h.0 h.1) ∙ ap places h.2 ∙ is)))
     | inr free ↦ absurd (some_none place (sym (stand.nowhere path free) ∙ is))
@@ -125,7 +125,7 @@ module _ (id : Kind → List ℕ → List ℕ) (spots : List Spot) (standing : L
       each = λ m. (
         λ c. elim (are.only m c) [
           | inl o ↦ inl o
-          | inr h ↦ inr (record { dir = path_to spots h.number; folder = stand.there h.number h.high ∙ ap (λ (p : Place). Some p) h.folder; is = h.is })
+          | inr h ↦ inr (record { dir = path_to spots h.number; folder = stand.there h.number h.high ∙ ap (λ (p : Member). Some p) h.folder; is = h.is })
         ],
         λ c. elim c [
           | inl o ↦ are.kept m o
@@ -143,7 +143,7 @@ module _ (id : Kind → List ℕ → List ℕ) (spots : List Spot) (standing : L
       let first = (tree_of spots table).first in
       let w = built.are.within in
       let folder : place_at standing 0 ≡ stands.Folder = the_place (place_at standing 0) stands.Folder (sym (stand.there 0 (omega (arith, w))) ∙ ap places first ∙ is) in
-      let enters = subst (λ (p : Place). Enters id (name_at spots 0) p mid (list_at lists 0) new below) (sym folder) (subst (GivesDirectory id mid (list_at lists 0) new below) made_root.named made_root) in
+      let enters = subst (λ (p : Member). Enters id (name_at spots 0) p mid (list_at lists 0) new below) (sym folder) (subst (GivesDirectory id mid (list_at lists 0) new below) made_root.named made_root) in
       let now = now_at id spots standing table built.entries 0 below in
       let are : AreBuilt id spots standing 0 [] old new now = next_built id spots standing table built.entries 0 below lists old mid new built.are enters [] refl (λ folder lt. absurd (omega (arith, lt))) (λ lt. absurd (omega (arith, lt))) in
       gives now old new are root (made_root.named ∙ ap (directory_id id) (sym (subst (λ (p : List ℕ). now p ≡ below) first (entries_here built.entries (path_to spots 0) below))))

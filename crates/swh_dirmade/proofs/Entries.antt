@@ -4,9 +4,7 @@ use Rattle.std.specs.Prelude.{if◌then◌else◌, ◌==◌}
 use Rattle.std.specs.List.{AllByRecursion, AllPairs, sum_by}
 use Rattle.std.specs.List.Sorted.{IsSortedBy, IsPermutation}
 use Rattle.std.specs.Str.{bytes_eq}
-use Rattle.std.specs.Ordering.{nat_cmp, is_lt, ordering_reverse}
-use Rattle.std.specs.declared.cmp.Ordering.{Ordering}
-use Rattle.std.specs.declared.cmp.Ordering.TheVariants.{Less, Equal, Greater}
+use Rattle.std.specs.Ordering.{nat_cmp, is_lt}
 use Rattle.std.specs.Cmp.Lexicographic.{slice_cmp}
 use Rattle.std.specs.FinMap.{nat_cmp-IsAntisymmetric, slice_cmp-IsAntisymmetric}
 use Rattle.std.proofs.lemmas.Cmp.{nat_list_cmp_total}
@@ -23,10 +21,11 @@ use Rattle.swh_base.specs.declared.name.Name.{Name}
 use Rattle.swh_base.specs.Directory.{DirectoryEntry, IsEntry, IsBefore, AreEntries, IsDirectory, entry_text, directory_text, sort_key, child_of, children_of}
 use Rattle.swh_base.specs.Manifest.{AreChildren}
 use Rattle.swh_base.proofs.DirectoryLemmas.{one_listing_lem}
-use Rattle.swh_made.proofs.Elements.{all_from, each_is}
+use Rattle.swh_dedup.proofs.Elements.{all_from, each_is}
 use Rattle.swh_base.specs.Limits.{body_limit}
 use Rattle.swh_base.specs.declared.kind.Kind.{Kind}
 use Rattle.swh_base.specs.declared.entry.Entry.{Entry}
+use Rattle.swh_base.proofs.Elementary.{less_or, same_tests}
 use Rattle.swh_model.specs.Meaning.{Made}
 use Rattle.swh_dirmade.specs.Directories.{directory_id}
 use Rattle.swh_dirmade.specs.Making.{IsReadyEntry, MayBeDirectory, IsDirectoryObject}
@@ -44,13 +43,6 @@ keys_apart_by a b false false pa pb apart e = apart (sym (append-nil a) ∙ e �
 
 keys_apart : (a b : DirectoryEntry) → IsEntry a → IsEntry b → a.name ≢ b.name → sort_key a ≡ sort_key b → ⊥
 keys_apart a b ha hb apart e = keys_apart_by a.name b.name (a.mode == 40000) (b.mode == 40000) ha.name.no_slash hb.name.no_slash apart e
-
-less_or : (o p : Ordering) → o ≡ ordering_reverse p → is_lt p ≡ false → (o ≡ Equal → ⊥) → o ≡ Less
-less_or Less p e h n = refl
-less_or Equal p e h n = absurd (n refl)
-less_or Greater Less e h n = absurd (cc)
-less_or Greater Equal e h n = absurd (cc)
-less_or Greater Greater e h n = absurd (cc)
 
 abbrev pub lt_keys : DirectoryEntry → DirectoryEntry → Bool
 lt_keys x y = is_lt (slice_cmp nat_cmp (sort_key x) (sort_key y))
@@ -122,13 +114,7 @@ text_length (e ∷ es) = length-append (entry_text e) (directory_text es) ∙ ap
 pub all_recursion_permutation : {X : Type 0} (P : X → Type 0) (xs ys : List X) → IsPermutation xs ys → AllByRecursion P xs → AllByRecursion P ys
 all_recursion_permutation P xs ys moved h = recursion_from_All P ys (All-permutation P xs ys moved (All-from_recursion P xs h))
 
-same_tests : (a b : Bool) → (a ≡ true → b ≡ true) → (b ≡ true → a ≡ true) → a ≡ b
-same_tests true true f g = refl
-same_tests true false f g = sym (f refl)
-same_tests false true f g = g refl
-same_tests false false f g = refl
-
-flips : (a b : List ℕ) → bytes_eq a b ≡ bytes_eq b a
+pub flips : (a b : List ℕ) → bytes_eq a b ≡ bytes_eq b a
 flips a b = same_tests (bytes_eq a b) (bytes_eq b a) (λ e. (bytes_eq-Decides b a).1 (sym ((bytes_eq-Decides a b).0 e))) (λ e. (bytes_eq-Decides a b).1 (sym ((bytes_eq-Decides b a).0 e)))
 
 -- what an entry may be, of each

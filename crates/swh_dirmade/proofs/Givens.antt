@@ -6,12 +6,12 @@ use Rattle.swh_base.specs.declared.kind.Kind.{Kind}
 use Rattle.swh_base.specs.declared.entry.Entry.{Entry}
 use Rattle.swh_object.specs.Object.{IsObject}
 use Rattle.swh_model.specs.Meaning.{Made}
-use Rattle.swh_made.specs.Making.{made_from, made, names_of_made}
-use Rattle.swh_made.specs.Giving.{AreNew}
-use Rattle.swh_made.specs.Seen.{Adds}
-use Rattle.swh_made.specs.declared.seen.Novelty.{Novelty}
-use Rattle.swh_made.specs.declared.seen.Novelty.TheVariants.{New}
-use Rattle.swh_made.proofs.Givens.{new_push}
+use Rattle.swh_dedup.specs.Making.{made_from, made, names_of_made}
+use Rattle.swh_dedup.specs.Giving.{AreNew}
+use Rattle.swh_dedup.specs.Seen.{Adds}
+use Rattle.swh_dedup.specs.declared.seen.Novelty.{Novelty}
+use Rattle.swh_dedup.specs.declared.seen.Novelty.TheVariants.{New}
+use Rattle.swh_dedup.proofs.Givens.{new_push}
 
 pub given_new : (id : Kind → List ℕ → List ℕ) (objects : List Entry) (object : Entry) (seen seen_now : List Made) (novelty : Novelty) (now : List Entry) → novelty ≡ New → Adds seen (made_from object) seen_now novelty → seen ≡ made objects → AreNew id [] objects → IsObject id object → AllByRecursion (Contains (names_of_made id (made objects))) object.kids → now ≡ objects ++ object ∷ [] → (seen_now ≡ made now) × AreNew id [] now
 given_new id objects object seen seen_now novelty now is adds same new good kids added =

@@ -9,9 +9,9 @@ use Rattle.swh_base.specs.declared.kind.Kind.{Kind}
 use Rattle.swh_base.specs.declared.name.Name.{Name}
 use Rattle.swh_base.specs.Directory.{DirectoryEntry, IsEntry, entry_text, directory_text}
 use Rattle.swh_dirfmt.proofs.Modes.{decimal-100644, decimal-100755, decimal-120000, decimal-40000, decimal-160000}
-use Rattle.swh_made.proofs.Elements.{first_is, later_is}
-use Rattle.swh_dirmade.specs.declared.place.Place.{Place}
-use Rattle.swh_dirmade.specs.declared.place.Place.TheVariants as stands
+use Rattle.swh_dedup.proofs.Elements.{first_is, later_is}
+use Rattle.swh_dirmade.specs.declared.member.Member.{Member}
+use Rattle.swh_dirmade.specs.declared.member.Member.TheVariants as stands
 use Rattle.swh_dirmade.specs.declared.spot.Spot.{Spot}
 use Rattle.swh_dirmade.specs.Building.{entry_at}
 use Rattle.swh_dirmade.specs.Directories.{entry_of, entry_size}
@@ -34,13 +34,13 @@ six mode (inr (inl e)) = ap (λ (m : ℕ). length (decimal m)) e ∙ ap length d
 six mode (inr (inr e)) = ap (λ (m : ℕ). length (decimal m)) e ∙ ap length decimal-120000
 
 module _ (id : Kind → List ℕ → List ℕ) where
-  entry_length : (names : List Name) (name : List ℕ) (below : List DirectoryEntry) (place : Place) → IsHeld names place → length (entry_of id name below place).id ≡ 20 → length (entry_text (entry_of id name below place)) ≡ entry_size name place
+  entry_length : (names : List Name) (name : List ℕ) (below : List DirectoryEntry) (place : Member) → IsHeld names place → length (entry_of id name below place).id ≡ 20 → length (entry_text (entry_of id name below place)) ≡ entry_size name place
   entry_length names name below (stands.File mode content) held twenty = text_size (entry_of id name below (stands.File mode content)) 6 (six mode held.0) twenty
   entry_length names name below stands.Folder held twenty = text_size (entry_of id name below stands.Folder) 5 (ap length decimal-40000) twenty
   entry_length names name below (stands.Project revision) held twenty = text_size (entry_of id name below (stands.Project revision)) 6 (ap length decimal-160000) twenty
 
   -- the entries of spots are as long as their sizes say
-  pub made_length : (spots : List Spot) (standing : List Place) (names : List Name) (entries : List ℕ → List DirectoryEntry) (ns : List ℕ) → ((i : ℕ) → Contains ns i → IsHeld names (place_at standing i) × IsEntry (entry_at id spots standing entries i))
+  pub made_length : (spots : List Spot) (standing : List Member) (names : List Name) (entries : List ℕ → List DirectoryEntry) (ns : List ℕ) → ((i : ℕ) → Contains ns i → IsHeld names (place_at standing i) × IsEntry (entry_at id spots standing entries i))
       → length (directory_text (map (entry_at id spots standing entries) ns)) ≡ sum_by (size_at spots standing) ns
   made_length spots standing names entries [] h = refl
   made_length spots standing names entries (n ∷ ns) h =
@@ -57,7 +57,7 @@ held_at P (x ∷ xs) zero d h lt = h.0
 held_at P (x ∷ xs) (suc k) d h lt = held_at P xs k d h.1 (omega (arith, lt))
 
 -- the sizes with the entry of one spot more
-pub more_sizes : (spots : List Spot) (standing : List Place) (m : ℕ) (sizes now : List ℕ) → IsTable spots → 0 < m → m < length spots → AreSizes spots standing (suc m) sizes → length now ≡ length sizes → now ≡ set sizes (above_at spots m) (get_or sizes (above_at spots m) 0 + size_at spots standing m) → AreSizes spots standing m now
+pub more_sizes : (spots : List Spot) (standing : List Member) (m : ℕ) (sizes now : List ℕ) → IsTable spots → 0 < m → m < length spots → AreSizes spots standing (suc m) sizes → length now ≡ length sizes → now ≡ set sizes (above_at spots m) (get_or sizes (above_at spots m) 0 + size_at spots standing m) → AreSizes spots standing m now
 more_sizes spots standing m sizes now table some within are count is = record { count = count ∙ are.count; each = each }
   where
     a : ℕ

@@ -6,7 +6,7 @@ use Rattle.std.proofs.lemmas.Bool.{cases_lt}
 use Rattle.std.proofs.lemmas.Bool.Decides.{Decides-eqb}
 use Rattle.std.proofs.lemmas.List.Elements.{All-from_recursion}
 use Rattle.std.proofs.lemmas.List.Kept.{AllPairs-cons}
-use Rattle.swh_made.proofs.Elements.{first_or_later, first_is, later_is, none_is, from_map, all_from}
+use Rattle.swh_dedup.proofs.Elements.{first_or_later, first_is, later_is, none_is, from_map, all_from}
 use Rattle.swh_dirmade.specs.declared.spot.Spot.{Spot}
 use Rattle.swh_dirmade.specs.Spots.{above_at, name_at, IsTable}
 use Rattle.swh_dirmade.specs.Numbers.{with_number, numbers_in, numbers_from}

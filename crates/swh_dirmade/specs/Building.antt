@@ -8,9 +8,9 @@ use Rattle.swh_base.specs.Directory.{DirectoryEntry, AreEntries, directory_text}
 use Rattle.swh_dirfmt.specs.declared.entry.DirEntry.{DirEntry}
 use Rattle.swh_dirfmt.specs.Entries.{entry_views}
 use Rattle.swh_model.specs.Meaning.{Made, directory}
-use Rattle.swh_made.specs.Making.{made, names_of_made}
-use Rattle.swh_dirmade.specs.declared.place.Place.{Place}
-use Rattle.swh_dirmade.specs.declared.place.Place.TheVariants as stands
+use Rattle.swh_dedup.specs.Making.{made, names_of_made}
+use Rattle.swh_dirmade.specs.declared.member.Member.{Member}
+use Rattle.swh_dirmade.specs.declared.member.Member.TheVariants as stands
 use Rattle.swh_dirmade.specs.declared.spot.Spot.{Spot}
 use Rattle.swh_dirmade.specs.Directories.{entry_of}
 use Rattle.swh_dirmade.specs.Making.{IsReadyEntry}
@@ -25,7 +25,7 @@ list_views lists = map (λ list. entry_views list.items) lists
 abbrev pub list_at : List (List DirectoryEntry) → ℕ → List DirectoryEntry
 list_at lists number = slice_index_or lists number []
 
-module _ (id : Kind → List ℕ → List ℕ) (spots : List Spot) (standing : List Place) where
+module _ (id : Kind → List ℕ → List ℕ) (spots : List Spot) (standing : List Member) where
   -- the entry of the spot of a number, where the folders at paths have these entries
   abbrev pub entry_at : (List ℕ → List DirectoryEntry) → ℕ → DirectoryEntry
   entry_at entries number = entry_of id (name_at spots number) (entries (path_to spots number)) (place_at standing number)

@@ -6,9 +6,9 @@ use Rattle.swh_base.specs.declared.kind.Kind.TheVariants.{Directory}
 use Rattle.swh_base.specs.declared.entry.Entry.{Entry}
 use Rattle.swh_base.specs.Directory.{DirectoryEntry, IsEntryName, AreEntries, directory_text}
 use Rattle.swh_model.specs.Meaning.{Made, directory}
-use Rattle.swh_made.specs.Making.{made}
-use Rattle.swh_dirmade.specs.declared.place.Place.{Place}
-use Rattle.swh_dirmade.specs.declared.place.Place.TheVariants as stands
+use Rattle.swh_dedup.specs.Making.{made}
+use Rattle.swh_dirmade.specs.declared.member.Member.{Member}
+use Rattle.swh_dirmade.specs.declared.member.Member.TheVariants as stands
 use Rattle.swh_dirmade.specs.Paths.{child}
 use Rattle.swh_dirmade.specs.Spots.{Places}
 
@@ -18,13 +18,13 @@ module _ (id : Kind → List ℕ → List ℕ) where
   directory_id entries = id Directory (directory_text entries)
 
   -- the entry of what stands under a name; a folder has the entries `below`
-  abbrev pub entry_of : List ℕ → List DirectoryEntry → Place → DirectoryEntry
+  abbrev pub entry_of : List ℕ → List DirectoryEntry → Member → DirectoryEntry
   entry_of name below (stands.File mode content) = record { mode = mode; name = name; id = content }
   entry_of name below stands.Folder = record { mode = 40000; name = name; id = directory_id below }
   entry_of name below (stands.Project revision) = record { mode = 160000; name = name; id = revision }
 
   -- the same, if something stands there
-  abbrev pub entry_for : List ℕ → List DirectoryEntry → Option Place → Option DirectoryEntry
+  abbrev pub entry_for : List ℕ → List DirectoryEntry → Option Member → Option DirectoryEntry
   entry_for name below (Some place) = Some (entry_of name below place)
   entry_for name below None = None
 
@@ -53,16 +53,16 @@ module _ (id : Kind → List ℕ → List ℕ) where
 
 -- a name, and what stands under it
 abbrev pub Row : Type 0
-Row = List ℕ × Place
+Row = List ℕ × Member
 
 -- how many digits the mode has
-abbrev pub mode_digits : Place → ℕ
+abbrev pub mode_digits : Member → ℕ
 mode_digits (stands.File mode content) = 6
 mode_digits stands.Folder = 5
 mode_digits (stands.Project revision) = 6
 
 -- how many bytes an entry has: its mode, a space, its name, a NUL, and an id of twenty bytes
-abbrev pub entry_size : List ℕ → Place → ℕ
+abbrev pub entry_size : List ℕ → Member → ℕ
 entry_size name place = mode_digits place + length name + 22
 
 abbrev pub row_size : Row → ℕ

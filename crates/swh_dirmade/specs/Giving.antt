@@ -2,7 +2,7 @@
 use Rattle.std.specs.Prelude.{◌≡◌, ◌⊎◌, List, [], ◌∷◌, ◌++◌, Contains}
 use Rattle.swh_base.specs.declared.entry.Entry.{Entry}
 use Rattle.swh_model.specs.Meaning.{Made}
-use Rattle.swh_made.specs.Making.{made_from, made}
+use Rattle.swh_dedup.specs.Making.{made_from, made}
 
 -- The object is given, unless one of its kind and body was given before.
 abbrev pub GivesOne : List Entry → Entry → List Entry → Type 0

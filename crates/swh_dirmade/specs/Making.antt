@@ -10,15 +10,15 @@ use Rattle.swh_base.specs.Limits.{body_limit}
 use Rattle.swh_base.specs.Directory.{DirectoryEntry, IsEntry, AreEntries, directory_text, child_of}
 use Rattle.swh_object.specs.Object.{IsObject}
 use Rattle.swh_model.specs.Meaning.{directory}
-use Rattle.swh_made.specs.Making.{made_from}
-use Rattle.swh_made.specs.Whole.{content_name}
-use Rattle.swh_dirmade.specs.declared.place.Place.{Place}
-use Rattle.swh_dirmade.specs.declared.place.Place.TheVariants as stands
+use Rattle.swh_dedup.specs.Making.{made_from}
+use Rattle.swh_dedup.specs.Whole.{content_name}
+use Rattle.swh_dirmade.specs.declared.member.Member.{Member}
+use Rattle.swh_dirmade.specs.declared.member.Member.TheVariants as stands
 use Rattle.swh_dirmade.specs.Giving.{GivesOne}
 use Rattle.swh_dirmade.specs.Directories.{entry_of, directory_id}
 
 -- A file's mode is one of files or of a link, and its content is one of these.
-abbrev pub IsHeld : List Name → Place → Type 0
+abbrev pub IsHeld : List Name → Member → Type 0
 IsHeld names (stands.File mode content) = ((mode ≡ 100644) ⊎ ((mode ≡ 100755) ⊎ (mode ≡ 120000))) × Contains names (content_name content)
 IsHeld names stands.Folder = Unit {0}
 IsHeld names (stands.Project revision) = Unit {0}
@@ -60,12 +60,12 @@ module _ (id : Kind → List ℕ → List ℕ) where
     pub gives : GivesOne old object new
 
   -- The entry is that of what stands under a name; a folder's directory of this list is given.
-  abbrev pub Enters : List ℕ → Place → List Entry → List DirectoryEntry → List Entry → List DirectoryEntry → Type 0
+  abbrev pub Enters : List ℕ → Member → List Entry → List DirectoryEntry → List Entry → List DirectoryEntry → Type 0
   Enters name (stands.File mode content) old list new below = new ≡ old
   Enters name stands.Folder old list new below = GivesDirectory old list new below (directory_id id below)
   Enters name (stands.Project revision) old list new below = new ≡ old
 
-  pub record MakesEntry (name : List ℕ) (place : Place) (old : List Entry) (list : List DirectoryEntry) (new : List Entry) (entry : DirectoryEntry) : Type 0 where
+  pub record MakesEntry (name : List ℕ) (place : Member) (old : List Entry) (list : List DirectoryEntry) (new : List Entry) (entry : DirectoryEntry) : Type 0 where
     pub below : List DirectoryEntry
     pub is : entry ≡ entry_of id name below place
     pub good : IsEntry entry

@@ -1,7 +1,7 @@
 -- The numbers of the spots that stand in one folder.
 use Rattle.std.specs.Prelude.{◌≡◌, ◌-◌, ◌==◌, ◌⊎◌, ℕ, zero, suc, Bool, true, false, List, [], ◌∷◌, length}
-use Rattle.swh_dirmade.specs.declared.place.Place.{Place}
-use Rattle.swh_dirmade.specs.declared.place.Place.TheVariants as stands
+use Rattle.swh_dirmade.specs.declared.member.Member.{Member}
+use Rattle.swh_dirmade.specs.declared.member.Member.TheVariants as stands
 use Rattle.swh_dirmade.specs.declared.spot.Spot.{Spot}
 use Rattle.swh_dirmade.specs.Spots.{above_at, place_at}
 
@@ -20,5 +20,5 @@ abbrev pub numbers_from : List Spot → ℕ → ℕ → List ℕ
 numbers_from spots folder from = numbers_in spots folder from (length spots - from)
 
 -- A folder has this number: the first one is the folder itself.
-abbrev pub IsFolderAt : List Place → ℕ → Type 0
+abbrev pub IsFolderAt : List Member → ℕ → Type 0
 IsFolderAt standing number = (number ≡ 0) ⊎ (place_at standing number ≡ stands.Folder)

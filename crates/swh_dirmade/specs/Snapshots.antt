@@ -5,7 +5,7 @@ use Rattle.swh_base.specs.declared.kind.Kind.TheVariants.{Snapshot}
 use Rattle.swh_base.specs.declared.entry.Entry.{Entry}
 use Rattle.swh_base.specs.Snapshot.{SnapshotBranch, IsSnapshot}
 use Rattle.swh_base.specs.Snapshot.BranchTarget.{ToObject}
-use Rattle.swh_made.specs.Making.{made_from, object_of}
+use Rattle.swh_dedup.specs.Making.{made_from, object_of}
 use Rattle.swh_dirmade.specs.Giving.{GivesOne}
 use Rattle.swh_dirmade.specs.Making.{directory_name}
 

@@ -3,14 +3,14 @@
 use Rattle.std.specs.Prelude.{◌≡◌, ◌≢◌, ◌<◌, ◌≤◌, ◌+◌, ◌-◌, ℕ, List, [], ◌∷◌, ◌++◌, length, map, slice_index_or, Option, Some, None}
 use Rattle.std.specs.List.{AllByRecursion}
 use Rattle.swh_base.specs.Directory.{IsEntryName}
-use Rattle.swh_dirmade.specs.declared.place.Place.{Place}
-use Rattle.swh_dirmade.specs.declared.place.Place.TheVariants as stands
+use Rattle.swh_dirmade.specs.declared.member.Member.{Member}
+use Rattle.swh_dirmade.specs.declared.member.Member.TheVariants as stands
 use Rattle.swh_dirmade.specs.declared.spot.Spot.{Spot}
 use Rattle.swh_dirmade.specs.Paths.{child}
 
 -- what stands at each path
 abbrev pub Places : Type 0
-Places = List ℕ → Option Place
+Places = List ℕ → Option Member
 
 -- the path of a number, and the empty one past their end
 abbrev pub path_at : List (List ℕ) → ℕ → List ℕ
@@ -42,7 +42,7 @@ abbrev pub name_at : List Spot → ℕ → List ℕ
 name_at spots number = slice_index_or (map (λ s. s.name) spots) number []
 
 -- what stands at a number
-abbrev pub place_at : List Place → ℕ → Place
+abbrev pub place_at : List Member → ℕ → Member
 place_at standing number = slice_index_or standing number stands.Folder
 
 -- The number of its folder is below this one. The first spot is the folder itself, which has no name.
@@ -80,6 +80,6 @@ abbrev pub IsFree : List Spot → List ℕ → Type 0
 IsFree spots path = (number : ℕ) → number < length spots → path_to spots number ≢ path
 
 -- What stands at the paths of a table, and nowhere else.
-pub record Stand (spots : List Spot) (standing : List Place) (places : Places) : Type 0 where
+pub record Stand (spots : List Spot) (standing : List Member) (places : Places) : Type 0 where
   pub there : (number : ℕ) → number < length spots → places (path_to spots number) ≡ Some (place_at standing number)
   pub nowhere : (path : List ℕ) → IsFree spots path → places path ≡ None

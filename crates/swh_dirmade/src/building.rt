@@ -3,8 +3,8 @@ ghost use Rattle.std.specs.Prelude.{◌≡◌, ◌<◌, ◌+◌, ◌++◌, ◌�
 ghost use Rattle.std.specs.List.{AllByRecursion};
 ghost use Rattle.swh_base.specs.declared.entry.Entry.{Entry};
 ghost use Rattle.swh_dirfmt.specs.Entries.{entry_view};
-ghost use Rattle.swh_made.specs.Making.{made, names_of_made};
-ghost use Rattle.swh_dirmade.specs.declared.place.Place.TheVariants.{Folder as AFolder};
+ghost use Rattle.swh_dedup.specs.Making.{made, names_of_made};
+ghost use Rattle.swh_dirmade.specs.declared.member.Member.TheVariants.{Folder as AFolder};
 ghost use Rattle.swh_dirmade.specs.Building.{list_views, list_at, Builds};
 ghost use Rattle.swh_dirmade.specs.Directories.{GivesDirectories};
 ghost use Rattle.swh_dirmade.specs.Making.{IsHeld, directory_name};
@@ -13,7 +13,7 @@ ghost use Rattle.swh_dirmade.specs.Spots.{Places, IsTable, Stand};
 
 use crate::directory::{make_directory, make_entry};
 use crate::given::Given;
-use crate::place::Place;
+use crate::member::Member;
 use crate::spot::Spot;
 use std::alloc::Global;
 use swh_base::{Memory, Namer};
@@ -51,7 +51,7 @@ fn put_next<N: Namer>(
     alloc: Global,
     namer: &N,
     spots: &[Spot],
-    places: &[Place],
+    places: &[Member],
     lists: &mut Vec<Vec<DirEntry>>,
     given: &mut Given<N>,
 ) -> Result<(), Memory>
@@ -82,7 +82,7 @@ pub fn make_directories<N: Namer>(
     alloc: Global,
     namer: &N,
     spots: &[Spot],
-    standing: &[Place],
+    standing: &[Member],
     given: &mut Given<N>,
 ) -> Result<[u8; 20], Memory>
     requires table { IsTable spots.now }

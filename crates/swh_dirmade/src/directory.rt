@@ -5,18 +5,18 @@ ghost use Rattle.std.specs.Cmp.Lexicographic.{slice_cmp};
 ghost use Rattle.swh_base.specs.declared.name.Name.{Name};
 ghost use Rattle.swh_base.specs.Directory.{DirectoryEntry, sort_key, suffix_of, IsEntryName};
 ghost use Rattle.swh_dirfmt.specs.Entries.{entry_view, entry_views};
-ghost use Rattle.swh_made.specs.Making.{made, names_of_made};
-ghost use Rattle.swh_dirmade.specs.declared.place.Place.TheVariants.{Folder as AFolder};
+ghost use Rattle.swh_dedup.specs.Making.{made, names_of_made};
+ghost use Rattle.swh_dirmade.specs.declared.member.Member.TheVariants.{Folder as AFolder};
 ghost use Rattle.swh_dirmade.specs.Making.{IsHeld, MayBeDirectory, IsDirectoryObject, GivesDirectory, MakesEntry};
 
 use crate::given::Given;
-use crate::place::Place;
+use crate::member::Member;
 use crate::spot::Spot;
 use std::alloc::Global;
 use std::cmp::Ordering;
 use swh_base::{Bytes, Kind, Memory, Namer};
+use swh_dedup::{MakeFault, make_object, whole_id};
 use swh_dirfmt::{DirEntry, Entries, write_dir};
-use swh_made::{MakeFault, make_object, whole_id};
 use swh_object::Object;
 
 /// What a name is compared with after its own bytes.
@@ -77,7 +77,7 @@ pub fn make_entry<N: Namer>(
     namer: &N,
     given: &mut Given<N>,
     spot: &Spot,
-    place: Place,
+    place: Member,
     list: Vec<DirEntry>,
 ) -> Result<DirEntry, Memory>
     requires named { IsEntryName spot.now.name }
@@ -89,16 +89,16 @@ pub fn make_entry<N: Namer>(
 {
     let name = Bytes::from_slice(alloc, spot.name.as_slice())?;
     match place {
-        Place::File { mode, id } => {
+        Member::File { mode, id } => {
             let id = whole_id(&id);
             Ok(DirEntry { mode, name, id })
         }
-        Place::Folder => {
+        Member::Folder => {
             let id = make_directory(alloc, namer, given, list)?;
             let mode = 40_000;
             Ok(DirEntry { mode, name, id })
         }
-        Place::Project(id) => {
+        Member::Project(id) => {
             let mode = 160_000;
             let id = whole_id(&id);
             Ok(DirEntry { mode, name, id })

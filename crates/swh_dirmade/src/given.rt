@@ -1,13 +1,13 @@
 //! The objects that a folder makes.
 ghost use Rattle.std.specs.Prelude.{Contains, OnOk};
 ghost use Rattle.std.specs.List.{AllByRecursion};
-ghost use Rattle.swh_made.specs.Making.{made, names_of_made};
+ghost use Rattle.swh_dedup.specs.Making.{made, names_of_made};
 ghost use Rattle.swh_dirmade.specs.Giving.{GivesOne};
 
 use std::alloc::Global;
 use std::marker::Model;
 use swh_base::{Memory, Namer};
-use swh_made::{Novelty, Seen};
+use swh_dedup::{Novelty, Seen};
 use swh_object::Object;
 
 /// The objects that were made so far: each once, and after all that it names.
@@ -20,8 +20,8 @@ pub struct Given<N: Namer> {
 impl<N: Namer> Model for Given<N> {
     ghost use Rattle.std.specs.Prelude.{◌≡◌, List, []};
     ghost use Rattle.swh_base.specs.declared.entry.Entry.{Entry};
-    ghost use Rattle.swh_made.specs.Making.{made};
-    ghost use Rattle.swh_made.specs.Giving.{AreNew};
+    ghost use Rattle.swh_dedup.specs.Making.{made};
+    ghost use Rattle.swh_dedup.specs.Giving.{AreNew};
 
     ghost Value = { List Entry };
 
@@ -32,7 +32,7 @@ impl<N: Namer> Model for Given<N> {
 
 impl<N: Namer> Given<N> {
     ghost use Rattle.std.specs.Prelude.{◌≡◌, []};
-    ghost use Rattle.swh_made.specs.Giving.{AreNew};
+    ghost use Rattle.swh_dedup.specs.Giving.{AreNew};
 
     /// Nothing was made.
     pub fn new(alloc: Global) -> Given<N>

@@ -5,9 +5,9 @@ ghost use Rattle.swh_base.specs.declared.entry.Entry.{Entry};
 ghost use Rattle.swh_base.specs.declared.name.Name.{Name};
 ghost use Rattle.swh_base.specs.Directory.{DirectoryEntry, IsEntryName};
 ghost use Rattle.swh_dirfmt.specs.Entries.{entry_view, entry_views};
-ghost use Rattle.swh_made.specs.Making.{made, names_of_made};
+ghost use Rattle.swh_dedup.specs.Making.{made, names_of_made};
 ghost use Rattle.swh_object.specs.Object.{IsObject};
-ghost use Rattle.swh_dirmade.specs.declared.place.Place.TheVariants.{Folder as AFolder};
+ghost use Rattle.swh_dirmade.specs.declared.member.Member.TheVariants.{Folder as AFolder};
 ghost use Rattle.swh_dirmade.specs.Building.{list_views, Builds};
 ghost use Rattle.swh_dirmade.specs.Directories.{GivesDirectories};
 ghost use Rattle.swh_dirmade.specs.Making.{IsHeld, MayBeDirectory, GivesDirectory, MakesEntry, directory_name};
@@ -16,12 +16,12 @@ ghost use Rattle.swh_dirmade.specs.Spots.{Places, IsTable, Stand};
 
 use crate::building::{no_lists, put_entry};
 use crate::directory::directory_object;
-use crate::place::Place;
+use crate::member::Member;
 use crate::spot::Spot;
 use std::alloc::Global;
 use swh_base::{Bytes, Memory, Namer};
+use swh_dedup::whole_id;
 use swh_dirfmt::DirEntry;
-use swh_made::whole_id;
 
 /// The id of the directory of these entries. Its body is let go.
 fn name_directory<N: Namer>(
@@ -42,7 +42,7 @@ fn name_entry<N: Namer>(
     alloc: Global,
     namer: &N,
     spot: &Spot,
-    place: Place,
+    place: Member,
     list: Vec<DirEntry>,
 ) -> Result<DirEntry, Memory>
     requires named { IsEntryName spot.now.name }
@@ -52,16 +52,16 @@ fn name_entry<N: Namer>(
 {
     let name = Bytes::from_slice(alloc, spot.name.as_slice())?;
     match place {
-        Place::File { mode, id } => {
+        Member::File { mode, id } => {
             let id = whole_id(&id);
             Ok(DirEntry { mode, name, id })
         }
-        Place::Folder => {
+        Member::Folder => {
             let id = name_directory(alloc, namer, list)?;
             let mode = 40_000;
             Ok(DirEntry { mode, name, id })
         }
-        Place::Project(id) => {
+        Member::Project(id) => {
             let mode = 160_000;
             let id = whole_id(&id);
             Ok(DirEntry { mode, name, id })
@@ -74,7 +74,7 @@ fn name_next<N: Namer>(
     alloc: Global,
     namer: &N,
     spots: &[Spot],
-    places: &[Place],
+    places: &[Member],
     lists: &mut Vec<Vec<DirEntry>>,
 ) -> Result<(), Memory>
     requires table { IsTable spots.now }
@@ -105,7 +105,7 @@ pub fn name_directories<N: Namer>(
     alloc: Global,
     namer: &N,
     spots: &[Spot],
-    standing: &[Place],
+    standing: &[Member],
 ) -> Result<[u8; 20], Memory>
     requires table { IsTable spots.now }
     requires count { length standing.now ≡ length spots.now }

@@ -6,24 +6,24 @@ ghost use Rattle.swh_dirmade.specs.Numbers.{IsFolderAt};
 ghost use Rattle.swh_dirmade.specs.Sizes.{AreSizes, AreShort, IsFirstLong};
 ghost use Rattle.swh_dirmade.specs.Spots.{IsTable};
 
-use crate::place::Place;
+use crate::member::Member;
 use crate::spot::Spot;
 use std::alloc::Global;
 use swh_base::{BODY_LIMIT, Memory};
 
 /// How many digits the mode of what stands there has.
-fn mode_digits(place: Place) -> u64
+fn mode_digits(place: Member) -> u64
     ensures { result ≡ mode_digits place }
 {
     match place {
-        Place::File { mode: _, id: _ } => 6,
-        Place::Folder => 5,
-        Place::Project(_) => 6,
+        Member::File { mode: _, id: _ } => 6,
+        Member::Folder => 5,
+        Member::Project(_) => 6,
     }
 }
 
 /// How many bytes an entry has: its mode, a space, its name, a NUL, and an id of twenty bytes.
-fn entry_size(name: &[u8], place: Place) -> u64
+fn entry_size(name: &[u8], place: Member) -> u64
     ensures { result ≡ entry_size name.now place }
 {
     mode_digits(place) + name.len() as u64 + 22
@@ -55,7 +55,7 @@ fn zeros(alloc: Global, count: usize) -> Result<Vec<u64>, Memory>
 }
 
 /// How long the directory of each spot is, if a folder stands there.
-fn sizes_of(alloc: Global, spots: &[Spot], places: &[Place]) -> Result<Vec<u64>, Memory>
+fn sizes_of(alloc: Global, spots: &[Spot], places: &[Member]) -> Result<Vec<u64>, Memory>
     requires table { IsTable spots.now }
     requires count { length places.now ≡ length spots.now }
     ensures { IfOk result (λ sizes. AreSizes spots.now places.now 1 sizes.items) }
@@ -72,7 +72,7 @@ fn sizes_of(alloc: Global, spots: &[Spot], places: &[Place]) -> Result<Vec<u64>,
 }
 
 /// Whether a folder stands there; the first is the folder itself.
-fn is_folder(places: &[Place], number: usize) -> bool
+fn is_folder(places: &[Member], number: usize) -> bool
     requires { number < length places.now }
     ensures { IsTrue result ↔ IsFolderAt places.now number }
 {
@@ -80,14 +80,14 @@ fn is_folder(places: &[Place], number: usize) -> bool
         return true;
     }
     match places[number] {
-        Place::Folder => true,
-        Place::File { mode: _, id: _ } => false,
-        Place::Project(_) => false,
+        Member::Folder => true,
+        Member::File { mode: _, id: _ } => false,
+        Member::Project(_) => false,
     }
 }
 
 /// Whether a folder stands there whose directory of this size is longer than a body may be.
-fn is_long(places: &[Place], number: usize, size: u64) -> bool
+fn is_long(places: &[Member], number: usize, size: u64) -> bool
     requires { number < length places.now }
     ensures { IsTrue result ↔ (IsFolderAt places.now number × (body_limit < size)) }
 {
@@ -98,7 +98,7 @@ fn is_long(places: &[Place], number: usize, size: u64) -> bool
 }
 
 /// The size of the first folder's directory that is longer than a body may be, in the order of the table.
-pub fn first_long(alloc: Global, spots: &[Spot], places: &[Place]) -> Result<Option<u64>, Memory>
+pub fn first_long(alloc: Global, spots: &[Spot], places: &[Member]) -> Result<Option<u64>, Memory>
     requires table { IsTable spots.now }
     requires count { length places.now ≡ length spots.now }
     ensures long { IfOk result (λ long. IfSome long (IsFirstLong spots.now places.now)) }

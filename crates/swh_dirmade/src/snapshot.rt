@@ -2,14 +2,14 @@
 ghost use Rattle.std.specs.Prelude.{◌≡◌, ◌∷◌, [], IfOk, Contains, length};
 ghost use Rattle.swh_base.specs.declared.kind.Kind.TheVariants.{Snapshot};
 ghost use Rattle.swh_snpfmt.specs.Branches.{branch_views};
-ghost use Rattle.swh_made.specs.Making.{made, names_of_made};
+ghost use Rattle.swh_dedup.specs.Making.{made, names_of_made};
 ghost use Rattle.swh_dirmade.specs.Making.{directory_name};
 ghost use Rattle.swh_dirmade.specs.Snapshots.{head, GivesSnapshot};
 
 use crate::given::Given;
 use std::alloc::Global;
 use swh_base::{Bytes, Kind, Memory, Name, Namer};
-use swh_made::{MakeFault, make_object, whole_id};
+use swh_dedup::{MakeFault, make_object, whole_id};
 use swh_snpfmt::{Branch, Branches, Target, write_snp};
 
 /// The one branch `HEAD`, to the directory of this id.

@@ -1,7 +1,7 @@
 // Folders in memory, laid out from tables.
 use std::alloc::{AllocError, Global};
 use std::sync::ArcSlice;
-use swh_memory_input::{MemoryFolder, MemorySource, Place, Stands};
+use swh_memory_input::{MemoryFolder, MemorySource, PathItem, Stands};
 use swh_outside::{Item, What};
 
 /// What stands at a path.
@@ -42,7 +42,7 @@ pub fn folder_of(alloc: Global, laid: &[Laid]) -> Result<MemoryFolder, AllocErro
     for (path, thing) in laid {
         let stands = stands_of(alloc, *thing)?;
         let path = String::from_str(alloc, path)?;
-        places.push(Place { path, stands })?;
+        places.push(PathItem { path, stands })?;
     }
     let path = String::from_str(alloc, "in")?;
     let places = ArcSlice::from_vec(places)?;

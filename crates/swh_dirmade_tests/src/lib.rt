@@ -1,4 +1,5 @@
-//! Tests of the directories and the snapshot of a folder, with the ids that git gives, and of directories that are too long.
+//! Tests of the directories and the snapshot of a folder, with the ids that git gives, and of directories that are too
+//! long.
 //! Stands on what it tests, on `swh_dirload`, which makes tables of folders, and on the folders of `swh_memory_input`.
 //! Nothing stands above it.
 #![tactic(auto)]

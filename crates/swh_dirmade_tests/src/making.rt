@@ -2,14 +2,14 @@
 ghost use Rattle.std.specs.Prelude.{◌≡◌, length};
 ghost use Rattle.std.specs.List.{AllByRecursion};
 ghost use Rattle.swh_base.specs.Namer.{sha1_id};
-ghost use Rattle.swh_made.specs.Making.{made, names_of_made};
+ghost use Rattle.swh_dedup.specs.Making.{made, names_of_made};
 ghost use Rattle.swh_dirmade.specs.Making.{IsHeld};
 ghost use Rattle.swh_dirmade.specs.Spots.{IsTable};
 
 use std::alloc::Global;
 use swh_base::{Memory, Sha1Namer};
 use swh_dirload::{index_of, read_files, spots_of, take_lines, walk};
-use swh_dirmade::{Given, Place, Spot, first_long, make_directories, make_snapshot};
+use swh_dirmade::{Given, Member, Spot, first_long, make_directories, make_snapshot};
 use swh_memory_input::{MemoryFolder, MemorySource};
 use swh_object::Object;
 
@@ -32,7 +32,7 @@ pub enum Outcome {
 fn made_of(
     alloc: Global,
     spots: &[Spot],
-    places: &[Place],
+    places: &[Member],
     given: Given<Sha1Namer>,
 ) -> Result<Outcome, Memory>
     requires table { IsTable spots.now }

@@ -1,6 +1,6 @@
-//! Entries in their order, cut into pieces that several lists share. A change makes anew one piece and the forks above it,
-//! but for those that one list alone has: it changes them.
-//! The sides of a fork are about as deep as each other, so of n entries about log n forks stand above a piece.
+//! Entries in their order, cut into pieces that several lists share. A change makes anew one piece and the forks above
+//! it, but for those that one list alone has: it changes them. The sides of a fork are about as deep as each other, so
+//! of n entries about log n forks stand above a piece.
 
 ghost use Rattle.std.specs.Prelude.{◌≡◌, ◌<◌, ◌≤◌, ◌+◌, ◌-◌, ◌++◌, ℕ, length, slice_index_or, IsTrue, IsFalse, IfOk, OnOk};
 ghost use Rattle.std.specs.List.{insert, remove, slice_get};

@@ -3,7 +3,8 @@ use Rattle.std.proofs.Common.{◌≡◌, inl, inr, ℕ, ◌+◌, ◌<◌, Option
 use Rattle.std.specs.Prelude.{Contains, IfSome, IfNone}
 use Rattle.std.proofs.Math.Seq.{drop-length}
 use Rattle.swh_base.specs.declared.name.Name.{Name}
-use Rattle.swh_graph.proofs.Lists.{none_in, in_cases}
+use Rattle.swh_base.proofs.Elementary.{none_in}
+use Rattle.swh_graph.proofs.Lists.{in_cases}
 use Rattle.swh_carried.specs.declared.fault.Why.{Why}
 use Rattle.swh_carried.specs.Uncarried.{BreaksNone}
 use Rattle.swh_fastcarried.specs.First.{IsFirstRule, IsFirstFound}

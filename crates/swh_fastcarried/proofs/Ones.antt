@@ -7,9 +7,10 @@ use Rattle.swh_base.specs.declared.name.Name.{Name}
 use Rattle.swh_base.specs.declared.kind.Kind.TheVariants.{Directory as DirectoryKind}
 use Rattle.swh_base.specs.Directory.{DirectoryEntry, IsDirectory}
 use Rattle.swh_base.proofs.DirectoryLemmas.{one_listing_lem}
+use Rattle.swh_base.proofs.Elementary.{none_in, only}
 use Rattle.swh_model.specs.Archive.{Bodies}
 use Rattle.swh_graph.specs.Holding.{HoldsDirectory}
-use Rattle.swh_graph.proofs.Lists.{none_in, in_first, in_map, from_map, only, same_some}
+use Rattle.swh_graph.proofs.Lists.{in_first, in_map, from_map, same_some}
 use Rattle.swh_fastcarried.specs.First.{IsOneOf, IsFolderOf, IsFolderAt}
 
 module _ {X : Type 0} (Is : X → Name → Type 0) where

@@ -6,8 +6,9 @@ use Rattle.std.proofs.lemmas.List.Elements.{Contains-append_cases}
 use Rattle.swh_base.specs.declared.name.Name.{Name}
 use Rattle.swh_base.specs.Release.{Release, IsRelease}
 use Rattle.swh_base.proofs.RevisionLemmas.{one_release}
+use Rattle.swh_base.proofs.Elementary.{only}
 use Rattle.swh_model.specs.Archive.{Bodies, body_of}
-use Rattle.swh_graph.proofs.Lists.{same_some, only}
+use Rattle.swh_graph.proofs.Lists.{same_some}
 use Rattle.swh_fastcarried.specs.Rules.{tag_branch, IsAtOwnBranch}
 
 -- what holds of each of the first, and of the next, holds of each of these

@@ -8,13 +8,14 @@ use Rattle.swh_base.specs.Limits.{path_limit}
 use Rattle.swh_base.specs.Snapshot.{SnapshotBranch, BranchTarget, ToObject, ToBranch, ToNothing, IsSnapshot}
 use Rattle.swh_base.proofs.DirectoryLemmas.{one_listing_lem}
 use Rattle.swh_base.proofs.SnapshotLemmas.{one_snapshot}
+use Rattle.swh_base.proofs.Elementary.{none_in}
 use Rattle.swh_model.specs.Archive.{Bodies, body_of}
 use Rattle.swh_graph.specs.Holding.{HoldsDirectory, HoldsSnapshot}
-use Rattle.swh_graph.proofs.Lists.{none_in, same_some}
+use Rattle.swh_graph.proofs.Lists.{same_some}
 use Rattle.swh_carried.specs.declared.fault.Why.{Why}
 use Rattle.swh_carried.specs.declared.fault.Why.TheVariants.{Cycle, Revision, Release, Empty, Dots, Text, Path, Branch, Tagless, Refs, Length}
 use Rattle.swh_carried.specs.Rules.{HasDirectoryEntry, HasDots, HasLongPath, way_length}
-use Rattle.swh_ways.specs.Ways.{Tells, RaisesOverAll, TellsOfFolders}
+use Rattle.swh_carried.specs.Ways.{Tells, RaisesOverAll, TellsOfFolders}
 use Rattle.swh_fastcarried.specs.First.{HaveDots, IsOneOf, IsFolderAt, IsOwnTag}
 use Rattle.swh_fastcarried.specs.Known.{IsEmptyFolder, IsLongOver, IsFolderRule}
 use Rattle.swh_fastcarried.specs.Rules.{IsEmptyEntry, IsRevisionRoot, HasOddBranch, HaveOddBranch, StandsAtBranch}

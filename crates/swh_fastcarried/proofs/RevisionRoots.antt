@@ -9,14 +9,15 @@ use Rattle.swh_base.specs.Manifest.{AreChildren}
 use Rattle.swh_base.specs.Reach.{IsChildIn}
 use Rattle.swh_base.specs.Revision.{Revision, IsRevision, revision_name, revision_children}
 use Rattle.swh_base.proofs.RevisionLemmas.{one_revision}
+use Rattle.swh_base.proofs.Elementary.{only}
 use Rattle.swh_model.specs.Archive.{Bodies, body_of, IsGraphOf}
 use Rattle.swh_graph.specs.Holding.{HoldsRevision}
 use Rattle.swh_graph.specs.Path.{directory_name}
-use Rattle.swh_graph.proofs.Lists.{in_first, only, same_some}
+use Rattle.swh_graph.proofs.Lists.{in_first, same_some}
 use Rattle.swh_postorder.specs.Cycle.{ArePreceded}
 use Rattle.swh_postorder.proofs.Preceded.{cut_at}
-use Rattle.swh_ways.specs.Ways.{Tells, IsWay as IsWayFrom}
-use Rattle.swh_ways.proofs.WayCounts.{tells_same}
+use Rattle.swh_carried.specs.Ways.{Tells, IsWay as IsWayFrom}
+use Rattle.swh_carried.proofs.WayCounts.{tells_same}
 use Rattle.swh_fastcarried.specs.First.{IsOneOf, IsRootAt}
 use Rattle.swh_fastcarried.specs.Rules.{IsRevisionRoot}
 use Rattle.swh_fastcarried.specs.RevisionWays.{IsWay}

@@ -7,7 +7,7 @@ use Rattle.swh_model.specs.Archive.{Bodies}
 use Rattle.swh_carried.specs.declared.fault.Why.{Why}
 use Rattle.swh_carried.specs.declared.fault.Why.TheVariants.{Cycle, Revision, Release, Empty, Dots, Text, Path, Branch, Tagless, Refs, Length}
 use Rattle.swh_fastcarried.specs.declared.reached.Reached.{Reached}
-use Rattle.swh_ways.specs.Ways.{HaveLong}
+use Rattle.swh_carried.specs.Ways.{HaveLong}
 use Rattle.swh_fastcarried.specs.Rules.{StandsAtBranch}
 
 -- All of it is as the archive has it.

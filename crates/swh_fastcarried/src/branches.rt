@@ -12,9 +12,8 @@ ghost use Rattle.swh_fastcarried.specs.Rules.{
   HaveOddBranch,
 };
 
-use swh_base::{Kind, Name, is_ref};
+use swh_base::{Kind, Name, behind, is_ref};
 use swh_model::Look;
-use swh_pieces::behind;
 use swh_revfmt::spelled_rel;
 use swh_snpfmt::{SpelledBranch, SpelledTarget};
 

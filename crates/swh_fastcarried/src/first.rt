@@ -14,7 +14,7 @@ ghost use Rattle.swh_dirfmt.specs.Entries.{entries_in_body};
 ghost use Rattle.swh_postorder.specs.Cycle.{ArePreceded};
 ghost use Rattle.swh_postorder.specs.Postorder.{Precedes};
 ghost use Rattle.swh_carried.specs.Rules.{HasDots, HasLongPath};
-ghost use Rattle.swh_ways.specs.Ways.{Tells, TellsOf, TellsOfFolders, RaisesOverAll};
+ghost use Rattle.swh_carried.specs.Ways.{Tells, TellsOf, TellsOfFolders, RaisesOverAll};
 ghost use Rattle.swh_fastcarried.specs.First.{HaveDots, IsOneOf, IsFolderAt, IsFirstRule, IsFirstFound};
 ghost use Rattle.swh_fastcarried.specs.Known.{Knows, IsEmptyFolder, IsLongOver, IsFolderRule};
 ghost use Rattle.swh_fastcarried.specs.RevisionWays.{IsWay};
@@ -34,11 +34,10 @@ use crate::roots::roots_of;
 use std::alloc::Global;
 use std::collections::BTreeMap;
 use swh_base::{Kind, Memory, Name};
-use swh_carried::Why;
+use swh_carried::{Why, have_long, raise_over_all, starts_of, way_to};
 use swh_dirfmt::SpelledEntry;
 use swh_graph::{GraphFault, directory_at, snapshot_at};
 use swh_model::Look;
-use swh_ways::{have_long, raise_over_all, starts_of, way_to};
 
 /// Whether a directory of these entries is empty, and an entry of one of the names. Only where it is empty they are read: all
 /// directories without entries have one name, so this is once at most in an order.

@@ -5,9 +5,9 @@ use Rattle.swh_model.specs.Archive.{Bodies}
 use Rattle.swh_revfmt.specs.Plain.{PlainRevision}
 use Rattle.swh_graph.specs.Path.{directory_name}
 use Rattle.swh_pathwalk.specs.Tree.{Row}
-use Rattle.swh_fasttext.specs.Text.{mark_line, data_line, blob_head, blob_text, commit_head}
-use Rattle.swh_written.specs.Held.{AddsUp, Kept, kept, Goes}
-use Rattle.swh_written.proofs.Pieces.{goes_both, front_behind, front_more, front_none}
+use Rattle.swh_fastwrite.specs.Text.{mark_line, data_line, blob_head, blob_text, commit_head}
+use Rattle.swh_fastwrite.specs.Held.{AddsUp, Kept, kept, Goes}
+use Rattle.swh_fastwrite.proofs.Pieces.{goes_both, front_behind, front_more, front_none}
 use Rattle.swh_marks.specs.Marks.{mark_of}
 use Rattle.swh_fastcook.specs.Files.{AreFilesOf, IsCommitOf}
 use Rattle.swh_fastcook.specs.Stream.{beginning, parents_text, files_text, commit_front}

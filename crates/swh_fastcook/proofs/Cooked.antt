@@ -5,10 +5,10 @@ use Rattle.swh_base.specs.declared.kind.Kind.{Kind}
 use Rattle.swh_base.specs.declared.kind.Kind.TheVariants.{Content, Directory, Revision as RevisionKind, Release as ReleaseKind, Snapshot}
 use Rattle.swh_base.specs.declared.name.Name.{Name}
 use Rattle.swh_base.specs.Manifest.{AreChildren}
+use Rattle.swh_base.proofs.Elementary.{none_in, only}
 use Rattle.swh_model.specs.Archive.{Bodies, body_of, IsGraphOf}
 use Rattle.swh_postorder.specs.Postorder.{Over, Enters, Here, IsEntered, IsPostorder, IsFirstMissing}
 use Rattle.swh_postorder.specs.Cycle.{IsOnCycle}
-use Rattle.swh_postorder.proofs.Trips.{none_in, only}
 use Rattle.swh_carried.specs.declared.fault.Why.{Why}
 use Rattle.swh_carried.specs.declared.fault.Why.TheVariants.{Cycle, Revision, Release, Empty, Dots, Text, Path, Branch, Tagless, Refs, Length}
 use Rattle.swh_carried.specs.Uncarried.{BreaksNone}

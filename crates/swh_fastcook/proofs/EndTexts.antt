@@ -8,8 +8,8 @@ use Rattle.swh_base.specs.Snapshot.{SnapshotBranch, IsSnapshot}
 use Rattle.swh_base.proofs.SnapshotLemmas.{one_snapshot}
 use Rattle.swh_model.specs.Archive.{Bodies}
 use Rattle.swh_graph.specs.Holding.{HoldsSnapshot}
-use Rattle.swh_written.specs.Held.{AddsUp, Kept, kept, Goes}
-use Rattle.swh_written.proofs.Pieces.{goes_both, front_behind, front_more, front_none}
+use Rattle.swh_fastwrite.specs.Held.{AddsUp, Kept, kept, Goes}
+use Rattle.swh_fastwrite.proofs.Pieces.{goes_both, front_behind, front_more, front_none}
 use Rattle.swh_fastcook.specs.Ends.{HasRevision, LackCookBranch, end_or_none, main_tip, IsEnd}
 use Rattle.swh_fastcook.specs.Stream.{tips_text, AreTipsOf, IsLast}
 use Rattle.swh_fastcook.proofs.Texts.{pushed}

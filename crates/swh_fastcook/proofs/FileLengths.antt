@@ -8,8 +8,8 @@ use Rattle.hex.specs.Hex.{encode_lower, lower_digits}
 use Rattle.hex.proofs.HexLemmas.{length-encode_with}
 use Rattle.swh_base.specs.declared.name.Name.{Name}
 use Rattle.swh_base.specs.Directory.{DirectoryEntry}
-use Rattle.swh_fasttext.specs.Quoted.{quoted_path}
-use Rattle.swh_fasttext.specs.Text.{file_line, project_line}
+use Rattle.swh_fastwrite.specs.Quoted.{quoted_path}
+use Rattle.swh_fastwrite.specs.Text.{file_line, project_line}
 use Rattle.swh_marks.specs.Marks.{mark_of}
 use Rattle.swh_pathwalk.specs.Tree.{Row}
 use Rattle.swh_pathsums.specs.Lengths.{path_length, row_length, rows_length}

@@ -7,6 +7,7 @@ use Rattle.std.proofs.lemmas.List.Elements.{Contains-append_left}
 use Rattle.swh_base.specs.declared.name.Name.{Name}
 use Rattle.swh_base.specs.Directory.{DirectoryEntry, child_of}
 use Rattle.swh_base.specs.Reach.{IsChildIn}
+use Rattle.swh_base.proofs.Elementary.{none_in}
 use Rattle.swh_dirfmt.specs.declared.entry.SpelledEntry.{SpelledEntry}
 use Rattle.swh_dirfmt.specs.Entries.{entry_of}
 use Rattle.swh_model.specs.Archive.{Bodies, IsGraphOf}
@@ -14,7 +15,7 @@ use Rattle.swh_graph.specs.Holding.{HoldsDirectory}
 use Rattle.swh_graph.specs.Path.{directory_name}
 use Rattle.swh_postorder.specs.Cycle.{ArePreceded}
 use Rattle.swh_postorder.proofs.Preceded.{cut_at}
-use Rattle.swh_postorder.proofs.Trips.{none_in, first_in, later_in, in_cases}
+use Rattle.swh_postorder.proofs.Trips.{first_in, later_in, in_cases}
 use Rattle.swh_pathwalk.specs.Walk.{Coming, Standing, with_entries, BeginsAt, ComesInside, Steps}
 use Rattle.swh_pathwalk.specs.Weight.{coming_weight}
 use Rattle.swh_pathwalk.proofs.Weights.{kids_are, lead_at_first, lighter}

@@ -5,11 +5,12 @@ use Rattle.std.proofs.lemmas.List.Elements.{Contains-append_left, Contains-appen
 use Rattle.swh_base.specs.declared.kind.Kind.{Kind}
 use Rattle.swh_base.specs.declared.kind.Kind.TheVariants.{Content as ContentKind, Directory as DirectoryKind, Revision as RevisionKind, Release as ReleaseKind, Snapshot as SnapshotKind}
 use Rattle.swh_base.specs.declared.name.Name.{Name}
+use Rattle.swh_base.proofs.Elementary.{none_in}
 use Rattle.swh_model.specs.Archive.{Bodies, IsHeld, IsGraphOf}
 use Rattle.swh_postorder.specs.Postorder.{Trip, Over, Passes, Enters, left_in, IsTrip, IsPostorder}
 use Rattle.swh_postorder.proofs.Orders.{AtOne, Sooner, Later, cuts, order_once, head_is, tail_is}
 use Rattle.swh_postorder.proofs.Preceded.{held_in}
-use Rattle.swh_postorder.proofs.Trips.{none_in, first_in}
+use Rattle.swh_postorder.proofs.Trips.{first_in}
 use Rattle.swh_carried.specs.declared.fault.Why.{Why}
 use Rattle.swh_carried.specs.declared.fault.Why.TheVariants.{Cycle, Revision, Release, Empty, Dots, Text, Path, Branch, Tagless, Refs, Length}
 use Rattle.swh_carried.specs.Uncarried.{rule_number, BreaksFirst, BreaksNone, IsFirstToBreak}

@@ -13,19 +13,17 @@ use Rattle.swh_base.specs.Release.{Release, IsRelease}
 use Rattle.swh_base.specs.Snapshot.{SnapshotBranch, BranchTarget, ToObject, ToBranch, ToNothing, IsSnapshot, branch_child}
 use Rattle.swh_base.proofs.RevisionLemmas.{one_revision, one_release}
 use Rattle.swh_base.proofs.SnapshotLemmas.{one_snapshot}
+use Rattle.swh_base.proofs.Elementary.{same_body, none_in as nothing_in, none_in}
 use Rattle.swh_model.specs.Archive.{Bodies, body_of, IsGraphOf}
 use Rattle.swh_graph.specs.Holding.{HoldsSnapshot}
 use Rattle.swh_graph.specs.Path.{directory_name}
-use Rattle.swh_graph.proofs.Lists.{none_in as nothing_in, in_cases as one_or_more}
+use Rattle.swh_graph.proofs.Lists.{in_cases as one_or_more}
 use Rattle.swh_postorder.specs.Cycle.{ArePreceded}
 use Rattle.swh_postorder.proofs.Preceded.{cut_at}
-use Rattle.swh_postorder.proofs.Trips.{first_in, later_in, none_in, in_cases}
+use Rattle.swh_postorder.proofs.Trips.{first_in, later_in, in_cases}
 use Rattle.swh_revfmt.specs.Plain.{PlainRevision, IsPlainRevision, PlainRelease, IsPlainRelease}
 use Rattle.swh_marks.specs.Marks.{is_written_kind, is_written}
 use Rattle.swh_fastcook.specs.Tips.{LeadInOrder}
-
-same_body : (a b : List ℕ) → Some a ≡ Some b → a ≡ b
-same_body a b e = cc
 
 -- an object that a release names, and that a stream carries, has a command
 pub written_object : (kind : Kind) → (kind ≡ Directory → ⊥) → (kind ≡ Snapshot → ⊥) → is_written_kind kind ≡ true

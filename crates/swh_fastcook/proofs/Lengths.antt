@@ -6,14 +6,14 @@ use Rattle.swh_base.specs.declared.kind.Kind.{Kind}
 use Rattle.swh_base.specs.declared.name.Name.{Name}
 use Rattle.swh_model.specs.Archive.{Bodies, IsGraphOf}
 use Rattle.swh_revfmt.specs.Plain.{PlainRevision}
-use Rattle.swh_fasttext.specs.Text.{mark_line, data_line, blob_head, blob_text, commit_head, tag_head}
+use Rattle.swh_fastwrite.specs.Text.{mark_line, data_line, blob_head, blob_text, commit_head, tag_head}
 use Rattle.swh_graph.specs.Path.{directory_name}
 use Rattle.swh_pathwalk.specs.Tree.{Row, IsPathWalk}
 use Rattle.swh_marks.specs.Marks.{mark_of}
 use Rattle.swh_pathsums.specs.Lengths.{IsUpTo, rows_length, IsLengthUnder}
 use Rattle.swh_pathsums.specs.Sums.{HasLength, length_at}
 use Rattle.swh_pathsums.specs.declared.sums.PathSums.{PathSums}
-use Rattle.swh_written.specs.Counts.{Counts}
+use Rattle.swh_fastwrite.specs.Counts.{Counts}
 use Rattle.swh_fastcook.specs.Ends.{IsEnd}
 use Rattle.swh_fastcook.specs.Length.{IsLongStream, HasText}
 use Rattle.swh_fastcook.specs.Lengths.{HasLengthOf}

@@ -8,11 +8,11 @@ use Rattle.std.proofs.lemmas.Grind.{flat_map-append}
 use Rattle.std.proofs.lemmas.List.Concat.{flat_map-cons}
 use Rattle.swh_base.specs.declared.name.Name.{Name}
 use Rattle.swh_base.specs.Snapshot.{SnapshotBranch}
+use Rattle.swh_base.proofs.Elementary.{only}
 use Rattle.swh_snpfmt.specs.declared.branch.SpelledBranch.{SpelledBranch}
 use Rattle.swh_snpfmt.specs.Branches.{branch_of, branches_in_body}
-use Rattle.swh_graph.proofs.Lists.{only}
-use Rattle.swh_written.specs.Held.{AddsUp, Kept, Goes}
-use Rattle.swh_written.proofs.Pieces.{goes_both, front_behind, front_none}
+use Rattle.swh_fastwrite.specs.Held.{AddsUp, Kept, Goes}
+use Rattle.swh_fastwrite.proofs.Pieces.{goes_both, front_behind, front_none}
 use Rattle.swh_fastcook.specs.Stream.{target_tip, tips_text}
 use Rattle.swh_fastcook.proofs.Texts.{unsettled}
 

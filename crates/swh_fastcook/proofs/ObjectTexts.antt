@@ -6,20 +6,18 @@ use Rattle.std.proofs.lemmas.Result.{on_ok_weaker, IfErr-weaker}
 use Rattle.swh_base.specs.declared.kind.Kind.{Kind}
 use Rattle.swh_base.specs.declared.kind.Kind.TheVariants.{Content, Directory, Revision as RevisionKind, Release as ReleaseKind, Snapshot}
 use Rattle.swh_base.specs.declared.name.Name.{Name}
+use Rattle.swh_base.proofs.Elementary.{same_body}
 use Rattle.swh_model.specs.Archive.{Bodies, body_of}
 use Rattle.swh_revfmt.specs.Plain.{PlainRevision, IsPlainRevision, PlainRelease, IsPlainRelease}
 use Rattle.swh_graph.specs.Path.{directory_name}
 use Rattle.swh_pathwalk.specs.Tree.{IsPathWalk}
-use Rattle.swh_fasttext.specs.Text.{blob_text}
-use Rattle.swh_written.specs.Held.{AddsUp, Kept, Goes, Wrote, WroteSome}
-use Rattle.swh_written.proofs.Pieces.{goes_both, front_behind, front_more}
+use Rattle.swh_fastwrite.specs.Text.{blob_text}
+use Rattle.swh_fastwrite.specs.Held.{AddsUp, Kept, Goes, Wrote, WroteSome}
+use Rattle.swh_fastwrite.proofs.Pieces.{goes_both, front_behind, front_more}
 use Rattle.swh_marks.specs.Marks.{mark_of}
 use Rattle.swh_fastcook.specs.Files.{IsCommitOf}
 use Rattle.swh_fastcook.specs.Stream.{IsBlob, IsCommit, IsTag, IsTextOf, IsObjectText, AreObjectTexts, commit_text, tag_text}
 use Rattle.swh_fastcook.proofs.OneText.{one_plain_revision, one_plain_release, one_walk}
-
-same_body : (a b : List ℕ) → Some a ≡ Some b → a ≡ b
-same_body a b e = cc
 
 module _ (bodies : Bodies) (order : List Name) (name : Name) where
   pub one_blob : (a b : List ℕ) → IsBlob bodies order name a → IsBlob bodies order name b → a ≡ b

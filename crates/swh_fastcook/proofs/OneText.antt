@@ -7,15 +7,14 @@ use Rattle.swh_base.specs.Release.{Release}
 use Rattle.swh_base.proofs.DirectoryLemmas.{one_listing_lem}
 use Rattle.swh_base.proofs.RevisionLemmas.{one_revision, one_release}
 use Rattle.swh_base.proofs.Lacks.{person-no_feed}
+use Rattle.swh_base.proofs.Elementary.{same_body}
 use Rattle.swh_model.specs.Archive.{Bodies}
 use Rattle.swh_revfmt.specs.Plain.{text_line, optional_line, IsPersonLine, IsEncoding, RevisionRest, IsRevisionRest, PlainRevision, IsPlainRevision, ReleaseRest, IsReleaseRest, PlainRelease, IsPlainRelease}
 use Rattle.swh_revfmt.proofs.Rests.{same_line}
 use Rattle.swh_graph.specs.Holding.{HoldsDirectory}
 use Rattle.swh_graph.specs.Path.{directory_name}
 use Rattle.swh_pathwalk.specs.Tree.{Tree, End, Leaf, Folder, Row, entries_in, AreHeldUnder, path_walk, IsPathWalk}
-
-same_body : (a b : List ℕ) → Some a ≡ Some b → a ≡ b
-same_body a b e = cc
+use Rattle.swh_pathwalk.proofs.Steps.{no_entry}
 
 heads : (a b : ℕ) (x y : List ℕ) → a ∷ x ≡ b ∷ y → a ≡ b
 heads a b x y e = cc
@@ -86,9 +85,6 @@ first_entry d e ds es is = cc
 
 other_entries : (d e : DirectoryEntry) (ds es : List DirectoryEntry) → d ∷ ds ≡ e ∷ es → ds ≡ es
 other_entries d e ds es is = cc
-
-no_entry : (e : DirectoryEntry) (es : List DirectoryEntry) → e ∷ es ≡ [] → ⊥
-no_entry e es is = cc
 
 module _ (bodies : Bodies) where
   same_listing : (name : Name) (es fs : List DirectoryEntry) → HoldsDirectory bodies name es → HoldsDirectory bodies name fs → es ≡ fs

@@ -5,8 +5,8 @@ use Rattle.std.proofs.lemmas.List.{append-nil}
 use Rattle.std.proofs.lemmas.Result.{on_ok_weaker, IfErr-weaker}
 use Rattle.swh_base.specs.declared.name.Name.{Name}
 use Rattle.swh_model.specs.Archive.{Bodies}
-use Rattle.swh_written.specs.Held.{AddsUp, Kept, kept, Goes, WroteSome}
-use Rattle.swh_written.proofs.Pieces.{goes_both, front_behind, front_more}
+use Rattle.swh_fastwrite.specs.Held.{AddsUp, Kept, kept, Goes, WroteSome}
+use Rattle.swh_fastwrite.proofs.Pieces.{goes_both, front_behind, front_more}
 use Rattle.swh_fastcook.specs.Ends.{IsEnd}
 use Rattle.swh_fastcook.specs.Stream.{AreObjectTexts, IsStreamText}
 use Rattle.swh_fastcook.proofs.EndTexts.{one_end}

@@ -12,8 +12,8 @@ use Rattle.swh_graph.specs.Path.{directory_name}
 use Rattle.swh_pathwalk.specs.Tree.{Row, IsPathWalk}
 use Rattle.swh_pathwalk.specs.Walk.{Coming, Standing, BeginsAt, Steps, Remain, row_of}
 use Rattle.swh_pathwalk.proofs.Steps.{begins, goes_on, ends, remain_at_first, remain_step}
-use Rattle.swh_written.specs.Held.{AddsUp, Kept, kept, Goes, Wrote, WroteSome}
-use Rattle.swh_written.proofs.Pieces.{goes_appended, goes_both, front_behind, front_more}
+use Rattle.swh_fastwrite.specs.Held.{AddsUp, Kept, kept, Goes, Wrote, WroteSome}
+use Rattle.swh_fastwrite.proofs.Pieces.{goes_appended, goes_both, front_behind, front_more}
 use Rattle.swh_fastcook.specs.Files.{AreFilesOf, RowsSoFar}
 use Rattle.swh_fastcook.specs.Stream.{file_text, files_text}
 

@@ -5,7 +5,7 @@ use Rattle.swh_base.specs.declared.kind.Kind.TheVariants.{Content, Directory, Re
 use Rattle.swh_base.specs.declared.name.Name.{Name}
 use Rattle.swh_base.specs.Snapshot.{SnapshotBranch}
 use Rattle.swh_model.specs.Archive.{Bodies}
-use Rattle.swh_fasttext.specs.Text.{cook_branch, tip_text, end_text}
+use Rattle.swh_fastwrite.specs.Text.{cook_branch, tip_text, end_text}
 use Rattle.swh_marks.specs.Marks.{mark_of}
 use Rattle.swh_fastcook.specs.Stream.{AreTips, IsLast}
 

@@ -11,7 +11,7 @@ use Rattle.swh_revfmt.specs.Plain.{PlainRevision, IsPlainRevision, PlainRelease,
 use Rattle.swh_graph.specs.Path.{directory_name}
 use Rattle.swh_graph.specs.Holding.{HoldsSnapshot}
 use Rattle.swh_pathwalk.specs.Tree.{Row, IsPathWalk}
-use Rattle.swh_fasttext.specs.Text.{data_text, marked_line, blob_text, cook_branch, commit_head, file_line, project_line, tag_head, begin_text, tip_text, end_text}
+use Rattle.swh_fastwrite.specs.Text.{data_text, marked_line, blob_text, cook_branch, commit_head, file_line, project_line, tag_head, begin_text, tip_text, end_text}
 use Rattle.swh_postorder.specs.Postorder.{IsPostorder}
 use Rattle.swh_marks.specs.Marks.{mark_of}
 

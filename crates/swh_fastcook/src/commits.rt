@@ -7,8 +7,8 @@ ghost use Rattle.swh_base.specs.declared.kind.Kind.TheVariants.{Revision as Revi
 ghost use Rattle.swh_graph.specs.Path.{directory_name};
 ghost use Rattle.swh_postorder.specs.Cycle.{IsSomePostorder, ArePreceded};
 ghost use Rattle.swh_revfmt.specs.PlainReading.{plain_revision, plain_release};
-ghost use Rattle.swh_fasttext.specs.Text.{blob_text, commit_head, tag_head, data_line};
-ghost use Rattle.swh_written.specs.Held.{Wrote, WroteSome, kept};
+ghost use Rattle.swh_fastwrite.specs.Text.{blob_text, commit_head, tag_head, data_line};
+ghost use Rattle.swh_fastwrite.specs.Held.{Wrote, WroteSome, kept};
 ghost use Rattle.swh_marks.specs.Marks.{mark_of, is_written};
 ghost use Rattle.swh_fastcook.specs.Cause.{HasWriteCause};
 ghost use Rattle.swh_fastcook.specs.Files.{IsCommitOf};
@@ -19,13 +19,12 @@ use crate::pieces::{hold, put_line};
 use std::alloc::Global;
 use swh_base::{Bytes, Kind, Memory, Name};
 use swh_carried::CookFault;
-use swh_fasttext::{
-    push_begin, push_blob_head, push_commit_head, push_data_line, push_marked, push_tag_head,
+use swh_fastwrite::{
+    Taker, push_begin, push_blob_head, push_commit_head, push_data_line, push_marked, push_tag_head,
 };
 use swh_marks::Marks;
 use swh_model::Look;
 use swh_revfmt::{PlainRel, PlainRev};
-use swh_written::Taker;
 
 /// Text where there is one, where it lies.
 fn text_of(text: &Option<Bytes>) -> Option<&[u8]>

@@ -2,12 +2,12 @@
 ghost use Rattle.std.specs.Prelude.{◌≡◌, ◌≢◌, ◌↔◌, ◌++◌, Bool, IsTrue, OnOk, IfOk, IfSome, IfNone, Contains, codes};
 ghost use Rattle.swh_base.specs.declared.kind.Kind.TheVariants.{Revision as RevisionKind, Snapshot as SnapshotKind};
 ghost use Rattle.swh_base.specs.declared.name.Name.{Name as Named};
-ghost use Rattle.swh_fasttext.specs.Text.{cook_branch};
+ghost use Rattle.swh_fastwrite.specs.Text.{cook_branch};
 ghost use Rattle.swh_graph.specs.Holding.{HoldsSnapshot};
 ghost use Rattle.swh_postorder.specs.Cycle.{IsSomePostorder, ArePreceded};
 ghost use Rattle.swh_snpfmt.specs.declared.branch.SpelledBranch.{SpelledBranch as Spelled};
 ghost use Rattle.swh_snpfmt.specs.Branches.{branches_in_body};
-ghost use Rattle.swh_written.specs.Held.{WroteSome, kept};
+ghost use Rattle.swh_fastwrite.specs.Held.{WroteSome, kept};
 ghost use Rattle.swh_fastcook.specs.Cause.{HasWriteCause};
 ghost use Rattle.swh_fastcook.specs.Ends.{HasRevision, LackCookBranch, end_or_none, main_tip, IsEnd};
 
@@ -16,12 +16,11 @@ use crate::tips::write_tips;
 use std::alloc::Global;
 use swh_base::{Kind, Memory, Name};
 use swh_carried::CookFault;
-use swh_fasttext::{push_end, push_tip};
+use swh_fastwrite::{Taker, push_end, push_tip};
 use swh_graph::{GraphFault, snapshot_at};
 use swh_marks::Marks;
 use swh_model::Look;
 use swh_snpfmt::SpelledBranch;
-use swh_written::Taker;
 
 fn is_revision(kind: Kind) -> bool
     ensures { IsTrue result ↔ (kind ≡ RevisionKind) }

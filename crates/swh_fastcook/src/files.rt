@@ -5,18 +5,17 @@ ghost use Rattle.swh_graph.specs.Path.{directory_name};
 ghost use Rattle.swh_postorder.specs.Cycle.{IsSomePostorder, ArePreceded};
 ghost use Rattle.swh_fastcook.specs.Cause.{HasWriteCause};
 ghost use Rattle.swh_fastcook.specs.Files.{IsFileIn, row_at, AreFilesOf};
-ghost use Rattle.swh_written.specs.Held.{WroteSome, kept};
+ghost use Rattle.swh_fastwrite.specs.Held.{WroteSome, kept};
 ghost use Rattle.swh_fastcook.specs.Stream.{file_text};
 
 use std::alloc::Global;
 use swh_base::{Kind, Memory, Name};
 use swh_carried::CookFault;
 use swh_dirfmt::SpelledEntry;
-use swh_fasttext::{push_file, push_project};
-use swh_heldpaths::{begin, next};
+use swh_fastwrite::{Taker, push_file, push_project, settle};
 use swh_marks::Marks;
 use swh_model::Look;
-use swh_written::{Taker, settle};
+use swh_pathwalk::{begin, next};
 
 /// Appends what stands for an entry of a tree: nothing for a folder.
 fn push_entry(

@@ -8,7 +8,7 @@ ghost use Rattle.swh_postorder.specs.Cycle.{IsSomePostorder, ArePreceded};
 ghost use Rattle.swh_postorder.specs.Postorder.{IsPostorder};
 ghost use Rattle.swh_marks.specs.Marks.{mark_of, is_written};
 ghost use Rattle.swh_revfmt.specs.PlainReading.{plain_revision, plain_release};
-ghost use Rattle.swh_fasttext.specs.Text.{blob_head, blob_text, commit_head, data_line, tag_head};
+ghost use Rattle.swh_fastwrite.specs.Text.{blob_head, blob_text, commit_head, data_line, tag_head};
 ghost use Rattle.swh_fastcarried.specs.Rules.{IsOddObject};
 ghost use Rattle.swh_pathsums.specs.Lengths.{IsUpTo};
 ghost use Rattle.swh_pathsums.specs.Sums.{AreLengths, length_at};
@@ -25,12 +25,11 @@ use crate::weighed::FileLines;
 use std::alloc::Global;
 use swh_base::{Kind, Memory, Name};
 use swh_carried::CookFault;
-use swh_fasttext::push_blob_head;
+use swh_fastwrite::{Counter, Taker, flush, push_blob_head};
 use swh_marks::Marks;
 use swh_model::Look;
 use swh_pathsums::{PathSums, path_sums, plus};
 use swh_revfmt::{PlainRel, PlainRev, plain_rel, plain_rev};
-use swh_written::{Counter, Taker, flush};
 
 /// The bytes that a stream may have.
 const STREAM_LIMIT: u64 = 1 << 32;

@@ -1,8 +1,8 @@
 //! Cooking: what is reached from a name that is no content is written as a stream (git-fast-import(1)).
-//! Stands on `swh_carried`, which has the order of the objects, on `swh_marks`, which has their marks, on `swh_fastcarried`,
-//! which has what a stream cannot carry, on `swh_pathwalk` and `swh_fasttext`, which have the files of a tree and the text of
-//! each command, on `swh_pathsums`, which has how long the lines of a tree's files are, and on `swh_written`, which takes a text
-//! piece by piece.
+//! Stands on `swh_carried`, which has the order of the objects, on `swh_marks`, which has their marks, on
+//! `swh_fastcarried`, which has what a stream cannot carry, on `swh_pathwalk` and `swh_fastwrite`, which have the files
+//! of a tree and the text of each command, on `swh_pathsums`, which has how long the lines of a tree's files are, and
+//! on `swh_fastwrite`, which takes a text piece by piece.
 //! Callers may rely on: before anything is put the first name that is not held is told, or else the first object that a
 //! stream cannot carry; what is put is the text that the definition of streams gives, or a front of it at a failure.
 #![tactic(auto)]

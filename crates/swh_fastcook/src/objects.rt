@@ -5,7 +5,7 @@ ghost use Rattle.swh_base.specs.declared.name.Name.{Name as Named};
 ghost use Rattle.swh_model.specs.Archive.{body_of};
 ghost use Rattle.swh_postorder.specs.Cycle.{IsSomePostorder, ArePreceded};
 ghost use Rattle.swh_fastcarried.specs.Rules.{IsOddObject};
-ghost use Rattle.swh_written.specs.Held.{WroteSome, kept};
+ghost use Rattle.swh_fastwrite.specs.Held.{WroteSome, kept};
 ghost use Rattle.swh_fastcook.specs.Cause.{HasWriteCause};
 ghost use Rattle.swh_fastcook.specs.Stream.{IsBlob, IsCommit, IsTag, IsObjectText, AreObjectTexts};
 
@@ -13,10 +13,10 @@ use crate::commits::{write_blob, write_commit, write_tag};
 use std::alloc::Global;
 use swh_base::{Kind, Name, Shared};
 use swh_carried::CookFault;
+use swh_fastwrite::Taker;
 use swh_marks::Marks;
 use swh_model::Look;
 use swh_revfmt::{plain_rel, plain_rev};
-use swh_written::Taker;
 
 /// The body of a name in the order.
 pub fn body_at<'a, L: Look>(look: &'a L, marks: &Marks, name: &Name) -> &'a Shared<u8>

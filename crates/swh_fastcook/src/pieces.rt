@@ -1,11 +1,11 @@
 //! Pieces of a text.
 ghost use Rattle.std.specs.Prelude.{◌≡◌, ◌<◌, ◌++◌, ◌∷◌, [], OnOk, length};
-ghost use Rattle.swh_written.specs.Held.{Wrote, kept};
+ghost use Rattle.swh_fastwrite.specs.Held.{Wrote, kept};
 ghost use Rattle.swh_fastcook.specs.Cause.{HasWriteCause};
 
 use swh_base::Memory;
 use swh_carried::CookFault;
-use swh_written::{Taker, settle, take_large};
+use swh_fastwrite::{Taker, settle, take_large};
 
 /// From how many bytes on a piece is taken where it lies.
 const LARGE: usize = 65_536;

@@ -4,7 +4,7 @@ ghost use Rattle.swh_base.specs.declared.name.Name.{Name as Named};
 ghost use Rattle.swh_postorder.specs.Cycle.{ArePreceded};
 ghost use Rattle.swh_postorder.specs.Postorder.{IsPostorder};
 ghost use Rattle.swh_fastcarried.specs.Rules.{IsOddObject};
-ghost use Rattle.swh_written.specs.Held.{WroteSome, kept};
+ghost use Rattle.swh_fastwrite.specs.Held.{WroteSome, kept};
 ghost use Rattle.swh_fastcook.specs.Cause.{HasWriteCause};
 ghost use Rattle.swh_fastcook.specs.Stream.{IsStreamText};
 
@@ -14,9 +14,9 @@ use crate::pieces::hold;
 use std::alloc::Global;
 use swh_base::Name;
 use swh_carried::CookFault;
+use swh_fastwrite::{Taker, flush};
 use swh_marks::Marks;
 use swh_model::Look;
-use swh_written::{Taker, flush};
 
 /// Writes the stream of the names that are reached from the root, which stand in this order. Its last bytes may be held.
 fn write_all<L: Look, T: Taker>(

@@ -4,17 +4,16 @@ ghost use Rattle.swh_base.specs.declared.name.Name.{Name};
 ghost use Rattle.swh_base.specs.declared.kind.Kind.TheVariants.{Revision as RevisionKind};
 ghost use Rattle.swh_base.specs.Snapshot.{SnapshotBranch, ToObject};
 ghost use Rattle.swh_snpfmt.specs.Branches.{branch_of, branches_in_body};
-ghost use Rattle.swh_written.specs.Held.{Wrote, kept};
+ghost use Rattle.swh_fastwrite.specs.Held.{Wrote, kept};
 ghost use Rattle.swh_fastcook.specs.Cause.{HasWriteCause};
 ghost use Rattle.swh_fastcook.specs.Stream.{object_tip, target_tip, tips_text};
 ghost use Rattle.swh_fastcook.specs.Tips.{LeadInOrder};
 
 use swh_base::{Kind, Memory, Name};
 use swh_carried::CookFault;
-use swh_fasttext::push_tip;
+use swh_fastwrite::{Taker, push_tip, settle};
 use swh_marks::Marks;
 use swh_snpfmt::{SpelledBranch, SpelledTarget};
-use swh_written::{Taker, settle};
 
 /// Appends the tip of a branch that leads to an object, where that is a revision.
 fn push_object_tip(

@@ -1,5 +1,5 @@
-//! What is cooked of each root: its text and its head. `git fast-import` takes each stream, and gives its commits and tags the
-//! names that they have here.
+//! What is cooked of each root: its text and its head. `git fast-import` takes each stream, and gives its commits and
+//! tags the names that they have here.
 use crate::shared::{archive_with, cooked, name_of, push_id, put};
 use std::alloc::Global;
 use std::test::Fail;

@@ -1,5 +1,5 @@
-//! How long a stream is, before it is written: just as long as what is written then, and found at once where so many paths lead
-//! to a file that nobody could walk over them.
+//! How long a stream is, before it is written: just as long as what is written then, and found at once where so many
+//! paths lead to a file that nobody could walk over them.
 ghost use Rattle.std.specs.Prelude.{◌≢◌};
 ghost use Rattle.swh_base.specs.declared.kind.Kind.TheVariants.{Content as ContentKind};
 

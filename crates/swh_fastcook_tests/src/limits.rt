@@ -1,5 +1,5 @@
-//! The limits of what a stream carries, at the limit and one above it: of paths, of branches, and of the whole text; that a long
-//! text is put in pieces; and that a long history and a deep folder take no recursion.
+//! The limits of what a stream carries, at the limit and one above it: of paths, of branches, and of the whole text;
+//! that a long text is put in pieces; and that a long history and a deep folder take no recursion.
 use crate::shared::{archive_with, cooked, name_of, push_id, put, refusal};
 use std::alloc::Global;
 use std::test::Fail;

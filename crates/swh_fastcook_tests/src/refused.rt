@@ -1,4 +1,5 @@
-//! What a stream cannot carry is told by the first object and the first rule that it breaks, and what is not held before that.
+//! What a stream cannot carry is told by the first object and the first rule that it breaks, and what is not held
+//! before that.
 use crate::shared::{archive_with, name_of, refusal};
 use std::alloc::Global;
 use std::test::Fail;

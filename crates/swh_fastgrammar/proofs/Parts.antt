@@ -123,7 +123,7 @@ no_rows a b r q h k e = (h ∙ sym k, ap (λ (t : List Placed). t ++ r) (sym h) 
 contents_single : Single contents
 contents_single rows x h = (h.0, h.2)
 
-link_plain : Contains (codes "160000") 32 → ⊥
+pub link_plain : Contains (codes "160000") 32 → ⊥
 link_plain = absent 32 (codes "160000") refl
 
 set_same : (m n : ℕ) (v w : Dataref) (p q : List ℕ) → m ≡ n → v ≡ w → p ≡ q → Set m v p ≡ Set n w q

@@ -6,6 +6,7 @@ use Rattle.swh_base.proofs.Splits.{sized_split, absent}
 use Rattle.swh_fastlex.specs.Path.{NamesPath}
 use Rattle.swh_fastlex.proofs.Pieces.{one_form}
 use Rattle.swh_base.specs.Text.{IsNumber, IsRef, value_from, is_digit, is_ref_byte}
+use Rattle.swh_base.proofs.Elementary.{append_nil}
 use Rattle.swh_fastgrammar.specs.declared.command.Commitish.{Commitish}
 use Rattle.swh_fastgrammar.specs.declared.command.Commitish.TheVariants.{Mark, Branch}
 use Rattle.swh_fastgrammar.specs.Word.{IsMark, NamesCommit, IsMode, SpellsId}
@@ -39,10 +40,6 @@ no_colon (c ∷ ref) number t h e =
 
 no_caret : (ref other : List ℕ) → IsRef ref → ref ≡ other ++ codes "^0" → ⊥
 no_caret ref other h e = not_among is_ref_byte 94 ref refl h.bytes (subst (λ (t : List ℕ). Contains t 94) (sym e) (in_tail other (codes "^0") 94 (0, omega arith, refl)))
-
-append_nil : (a : List ℕ) → a ++ [] ≡ a
-append_nil [] = refl
-append_nil (c ∷ a) = ap (λ (t : List ℕ). c ∷ t) (append_nil a)
 
 pub one_commit : (text : List ℕ) (x y : Commitish) → NamesCommit text x → NamesCommit text y → x ≡ y
 one_commit text (Mark m) (Mark n) h k =

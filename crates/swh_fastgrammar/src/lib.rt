@@ -1,4 +1,5 @@
-//! The commands of streams, and the grammar that says which bytes are which commands (git-fast-import(1), input format).
+//! The commands of streams, and the grammar that says which bytes are which commands (git-fast-import(1), input
+//! format).
 //! Stands on `swh_base`, `swh_fastlex` and `hex`.
 //! Callers may rely on: a text is one list of commands at most, has one fault at most, and not both.
 #![tactic(auto)]

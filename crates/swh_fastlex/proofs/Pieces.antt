@@ -2,6 +2,7 @@
 use Rattle.std.proofs.Common.{◌≡◌, ◌≢◌, ℕ, zero, suc, ◌+◌, ◌-◌, ◌*◌, ◌≤◌, inl, inr, Some, None, List, [], ◌∷◌, ◌++◌, length, get_or, drop, map, refl, sym, ap, ◌∙◌, subst, arith, append_assoc, length-append}
 use Rattle.std.specs.List.{flat_map, AllByRecursion}
 use Rattle.swh_base.proofs.Splits.{first_split}
+use Rattle.swh_base.proofs.Elementary.{append_nil}
 use Rattle.swh_fastlex.specs.Path.{Piece, Itself, Letter, Octal, piece_text, piece_byte, IsPiece, letter_byte, closed_text, IsPlain, Spells, SpellsPath}
 use Rattle.swh_fastlex.specs.Spelling.{BeginsWithPiece, BeginsWithOctal, ReadsPieces}
 
@@ -127,10 +128,6 @@ octal_piece text after first byte e f h = piece_front (Octal h.high h.middle h.l
 all_more : (ps : List Piece) (p : Piece) → AllByRecursion IsPiece ps → IsPiece p → AllByRecursion IsPiece (ps ++ p ∷ [])
 all_more [] p h k = (k, tt)
 all_more (q ∷ qs) p h k = (h.0, all_more qs p h.1 k)
-
-append_nil : (a : List ℕ) → a ++ [] ≡ a
-append_nil [] = refl
-append_nil (c ∷ a) = ap (λ (t : List ℕ). c ∷ t) (append_nil a)
 
 flat_map_more_piece : (ps : List Piece) (p : Piece) → flat_map piece_text (ps ++ p ∷ []) ≡ flat_map piece_text ps ++ piece_text p
 flat_map_more_piece [] p = append_nil (piece_text p)

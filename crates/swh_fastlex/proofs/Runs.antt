@@ -1,15 +1,12 @@
 -- The bytes that the front of a text spells: there is one list of them, and what follows it tells whether it is a path.
 use Rattle.std.proofs.Common.{◌≡◌, ◌≢◌, ◌⊎◌, ℕ, ◌-◌, ◌<◌, ◌≤◌, Bool, true, false, MatchBool, inl, inr, List, [], ◌∷◌, ◌++◌, length, drop, map, Contains, refl, sym, ap, ◌∙◌, subst, arith, append_assoc}
 use Rattle.std.specs.List.{flat_map}
-use Rattle.swh_pieces.proofs.Middle.{in_middle}
+use Rattle.swh_base.proofs.Middle.{in_middle}
 use Rattle.swh_base.proofs.Splits.{first_split}
 use Rattle.swh_base.specs.Limits.{path_limit}
+use Rattle.swh_base.proofs.Elementary.{append_nil}
 use Rattle.swh_fastlex.specs.Path.{piece_text, piece_byte, IsQuoted, IsPlain, Spells, SpellsPath, RunsQuoted, RunsPlain, RunsPath, PassesPath}
 use Rattle.swh_fastlex.proofs.Pieces.{NoPiece, no_quote_piece, same_pieces, left_over, plain_no_quote}
-
-append_nil : (a : List ℕ) → a ++ [] ≡ a
-append_nil [] = refl
-append_nil (c ∷ a) = ap (λ (t : List ℕ). c ∷ t) (append_nil a)
 
 one_plain : (stop : ℕ) (p q x y : List ℕ) → (Contains p stop → ⊥) → (Contains q stop → ⊥) → p ++ x ≡ q ++ y → ((x ≡ []) ⊎ ((more : List ℕ) × (x ≡ stop ∷ more))) → ((y ≡ []) ⊎ ((more : List ℕ) × (y ≡ stop ∷ more))) → (p ≡ q) × (x ≡ y)
 one_plain stop p q x y np nq e (inl a) (inl b) =

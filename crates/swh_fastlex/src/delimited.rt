@@ -25,8 +25,8 @@ use crate::fault::DataFault;
 use crate::line::next_line;
 use crate::window::Window;
 use std::alloc::Global;
+use swh_base::behind;
 use swh_outside::Source;
-use swh_pieces::behind;
 
 /// Whether a line with its LF is just the word.
 fn is_word_line(line: &[u8], word: &[u8]) -> bool

@@ -5,8 +5,8 @@ ghost use Rattle.swh_outside.specs.Source.{LosesSome};
 ghost use Rattle.swh_fastlex.specs.Line.{unread, TakesFeed};
 
 use crate::window::Window;
+use swh_base::behind;
 use swh_outside::{Failed, Source};
-use swh_pieces::behind;
 
 /// Reads an LF where one is next, and answers whether it was there. One is not there where nothing is to be read.
 ///

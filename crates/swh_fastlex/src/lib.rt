@@ -1,10 +1,10 @@
 //! Inputs read from a source, whole or line by line, and the paths in them.
-//! Stands on `swh_base`, `swh_pieces` and `swh_outside`.
+//! Stands on `swh_base` and `swh_outside`.
 //! Callers may rely on: what is read whole is all that was left; a front is cut only above its limit; no more than a
 //! window above the limit is taken, and no more than one byte by the reader that reserves; a fault says which limit or
-//! count; a path is the one that its text spells, none where it spells none, and told to be too long before either; each
-//! line, and the data after one, are the next in the stream, in whatever pieces the source gives them, and each end of
-//! reading is told by its case; a count of faults rises only where the answer is that the source failed.
+//! count; a path is the one that its text spells, none where it spells none, and told to be too long before either;
+//! each line, and the data after one, are the next in the stream, in whatever pieces the source gives them, and each
+//! end of reading is told by its case; a count of faults rises only where the answer is that the source failed.
 #![tactic(auto)]
 
 mod counted;

@@ -2,7 +2,7 @@
 ghost use Rattle.std.specs.Prelude.{◌↔◌, IsTrue};
 ghost use Rattle.swh_fastlex.specs.Path.{IsComponent, IsPath};
 
-use swh_pieces::split_at_byte;
+use swh_base::split_at_byte;
 
 /// Whether this may be a component of a path: it is not empty, is neither `.` nor `..`, and has no NUL.
 fn is_component(name: &[u8]) -> bool

@@ -7,8 +7,7 @@ use crate::path::is_path;
 use crate::spelling::path_run;
 use crate::word::Word;
 use std::alloc::{AllocError, Global};
-use swh_base::{Bytes, PATH_LIMIT};
-use swh_pieces::behind;
+use swh_base::{Bytes, PATH_LIMIT, behind};
 
 /// A path with which a text begins.
 #[derive(Drop)]

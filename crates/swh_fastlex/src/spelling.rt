@@ -4,7 +4,7 @@ ghost use Rattle.swh_fastlex.specs.Path.{letter_byte, Piece, IsPiece, piece_text
 ghost use Rattle.swh_fastlex.specs.Spelling.{BeginsWithPiece, BeginsWithOctal, NeverOctal, IsBefore};
 
 use std::alloc::{AllocError, Global};
-use swh_pieces::behind;
+use swh_base::behind;
 
 /// The bytes that the front of a text spells, as far as a path may go.
 #[derive(Drop)]

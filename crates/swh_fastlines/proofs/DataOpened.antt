@@ -1,6 +1,6 @@
 -- Data that a line opens.
 use Rattle.std.proofs.Common.{◌≡◌, ℕ, inl, inr, List, ◌∷◌, ◌++◌, length, Contains, sym, ◌∙◌, subst, codes}
-use Rattle.swh_pieces.proofs.Middle.{in_middle}
+use Rattle.swh_base.proofs.Middle.{in_middle}
 use Rattle.swh_fastgrammar.specs.Row.{Opens}
 use Rattle.swh_fastgrammar.proofs.Rows.{same_tail, no_angle}
 

@@ -4,6 +4,7 @@ use Rattle.std.proofs.lemmas.List.{length-take, take-append-drop}
 use Rattle.std.specs.List.{AllPass}
 use Rattle.swh_base.specs.Limits.{ref_limit}
 use Rattle.swh_base.specs.Text.{IsRef, is_ref_byte}
+use Rattle.swh_base.proofs.Elementary.{append_nil}
 use Rattle.swh_fastgrammar.specs.declared.command.Commitish.{Commitish}
 use Rattle.swh_fastgrammar.specs.declared.command.Commitish.TheVariants.{Mark, Branch}
 use Rattle.swh_fastlines.specs.Limit.{PassesRef}
@@ -68,10 +69,6 @@ passes_not text n limit h le number p =
     let count = p.count in
     let above = p.above in
     omega (arith, same, count, above, le)
-
-append_nil : (a : List ℕ) → a ++ [] ≡ a
-append_nil [] = refl
-append_nil (c ∷ a) = ap (λ (t : List ℕ). c ∷ t) (append_nil a)
 
 nothing_stops : Stops []
 nothing_stops c more e = absurd cc

@@ -1,9 +1,9 @@
 -- What stands before a path that is set.
 use Rattle.std.proofs.Common.{◌≡◌, ℕ, List, [], ◌∷◌, ◌++◌, Contains, refl, sym, ap, ◌∙◌, subst, arith, codes}
 use Rattle.std.specs.List.{AllPass}
-use Rattle.swh_pieces.proofs.Middle.{in_middle}
+use Rattle.swh_base.proofs.Middle.{in_middle}
 use Rattle.swh_base.proofs.Ids.{IsIdText-encode}
-use Rattle.swh_base.proofs.Splits.{first_split, absent}
+use Rattle.swh_base.proofs.Splits.{first_split}
 use Rattle.swh_base.specs.Name.{is_lower_hex_digit}
 use Rattle.swh_fastgrammar.specs.declared.command.Dataref.{Dataref}
 use Rattle.swh_fastgrammar.specs.declared.command.Dataref.TheVariants.{Mark, Inline, Hex}
@@ -12,6 +12,7 @@ use Rattle.swh_fastlines.specs.Reading.{BeginsFile}
 use Rattle.swh_fastgrammar.specs.Word.{IsMark, IsMode, SpellsId}
 use Rattle.swh_fastgrammar.proofs.Rows.{same_tail}
 use Rattle.swh_fastgrammar.proofs.Words.{mode-no_space, mode-no_link, number-no_space, not_among}
+use Rattle.swh_fastgrammar.proofs.Parts.{link_plain}
 
 abbrev first : List ℕ → ℕ
 first [] = 0
@@ -42,9 +43,6 @@ no_file_mark text marked number after e plain cut none (Hex id) rest h = h
 -- nothing before a path that is set
 abbrev pub NoFront : List ℕ → Type 0
 NoFront text = (mode : ℕ) (what : Dataref) (rest : List ℕ) → BeginsSet text mode what rest → ⊥
-
-link_plain : Contains (codes "160000") 32 → ⊥
-link_plain = absent 32 (codes "160000") refl
 
 -- no mode of a file or a link stands where that of a revision does
 no_link_mode : (text a : List ℕ) (m : ℕ) (x : List ℕ) → codes "160000 " ++ text ≡ a ++ 32 ∷ x → IsMode a m → ⊥

@@ -9,10 +9,9 @@ ghost use Rattle.swh_fastlines.specs.Reading.{BeginsFile, LineSays, IsChangeLine
 
 use crate::line_words::{id_of, mark_of, mode_of};
 use std::alloc::{AllocError, Global};
-use swh_base::Bytes;
+use swh_base::{Bytes, behind, split_at_byte};
 use swh_fastgrammar::{Change, Dataref};
 use swh_fastlex::{Word, path_before, path_word};
-use swh_pieces::{behind, split_at_byte};
 
 /// The change that a line says.
 #[derive(Drop)]

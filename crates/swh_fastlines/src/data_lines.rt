@@ -2,8 +2,7 @@
 ghost use Rattle.std.specs.Prelude.{◌++◌, codes};
 ghost use Rattle.swh_fastlines.specs.Reading.{IsDataLine};
 
-use swh_base::number_of;
-use swh_pieces::{behind, split_at_byte};
+use swh_base::{behind, number_of, split_at_byte};
 
 /// The data that a line opens.
 #[derive(Drop)]

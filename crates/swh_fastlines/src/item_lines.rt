@@ -4,9 +4,8 @@ ghost use Rattle.swh_fastlines.specs.ItemLine.{SaysNothing, IsItemLine};
 
 use crate::line_words::{ref_word, tag_word};
 use std::alloc::{AllocError, Global};
-use swh_base::Bytes;
+use swh_base::{Bytes, behind};
 use swh_fastlex::Word;
-use swh_pieces::behind;
 
 /// What the first line of an item says.
 #[derive(Drop)]

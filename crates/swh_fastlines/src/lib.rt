@@ -1,8 +1,8 @@
 //! The lines of a stream's commands, and the words in them (git-fast-import(1), input format).
-//! Stands on `swh_base`, `swh_pieces`, `swh_fastlex`, `swh_fastgrammar` and `hex`.
-//! Callers may rely on: a line is told to open data, to say a change or to be left out, and a text to be a word of a line,
-//! exactly where the grammar has it, and one with a ref or a path that is too long is told so first. Which limit the words
-//! of a line pass is told of the line alone, wherever it stands.
+//! Stands on `swh_base`, `swh_fastlex`, `swh_fastgrammar` and `hex`.
+//! Callers may rely on: a line is told to open data, to say a change or to be left out, and a text to be a word of a
+//! line, exactly where the grammar has it, and one with a ref or a path that is too long is told so first. Which limit
+//! the words of a line pass is told of the line alone, wherever it stands.
 #![tactic(auto)]
 
 mod change_lines;

@@ -6,8 +6,7 @@ ghost use Rattle.swh_fastlines.specs.Limit.{ref_words, PassesCount, PassesRefs, 
 use crate::change_lines::{ChangeLine, change_line};
 use crate::line_words::ref_run;
 use std::alloc::{AllocError, Global};
-use swh_base::{BODY_LIMIT, PATH_LIMIT, REF_LIMIT, TAG_LIMIT, Which, number_of};
-use swh_pieces::behind;
+use swh_base::{BODY_LIMIT, PATH_LIMIT, REF_LIMIT, TAG_LIMIT, Which, behind, number_of};
 
 /// How many bytes of data the line opens, where a body may have fewer.
 fn long_count(line: &[u8]) -> Option<u64>

@@ -10,10 +10,9 @@ ghost use Rattle.swh_fastlines.specs.Limit.{PassesRef};
 ghost use Rattle.swh_fastgrammar.specs.Word.{IsMark, IsMode, SpellsId, NamesRef, NamesTag, NamesEncoding, NamesCommit, IsRefRun, IsRefUpTo, EndsCommit};
 
 use std::alloc::{AllocError, Global};
-use swh_base::{Bytes, Kind, Name, REF_LIMIT, TAG_LIMIT, is_ref, number_of};
+use swh_base::{Bytes, Kind, Name, REF_LIMIT, TAG_LIMIT, behind, is_ref, number_of, split_at_byte};
 use swh_fastgrammar::Commitish;
 use swh_fastlex::Word;
-use swh_pieces::{behind, split_at_byte};
 
 /// The mark that the text writes: 1 to 18 digits, and not 0.
 pub fn mark_of(text: &[u8]) -> Option<u64>

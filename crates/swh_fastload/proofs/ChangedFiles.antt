@@ -8,13 +8,14 @@ use Rattle.swh_base.specs.declared.kind.Kind.TheVariants.{Content}
 use Rattle.swh_base.specs.declared.name.Name.{Name}
 use Rattle.swh_base.specs.Name.{IsId}
 use Rattle.swh_base.specs.Directory.{IsEntryName}
+use Rattle.swh_base.proofs.Elementary.{all_as}
 use Rattle.swh_model.specs.Meaning.{Made, content}
 use Rattle.swh_model.proofs.Entries.{all-append}
 use Rattle.swh_fastlex.specs.Path.{IsPath, components}
 use Rattle.swh_entries.specs.declared.entry.Leaf.{Leaf}
 use Rattle.swh_forest.specs.PathMap.{PathMap, same, is_path_before, insert_path, cleared, set, delete, rest_beside, held_by, held, insert_under, put_held, copy, rename, HasFolder}
 use Rattle.swh_forest.proofs.Components.{path-names, components-some}
-use Rattle.swh_made.specs.Whole.{content_name}
+use Rattle.swh_dedup.specs.Whole.{content_name}
 use Rattle.swh_fastgrammar.specs.declared.command.Change.{Change}
 use Rattle.swh_fastgrammar.specs.declared.command.Change.TheVariants.{Set, Delete, Copy, Move, Clear}
 use Rattle.swh_fastgrammar.specs.declared.command.Dataref.{Dataref}
@@ -23,10 +24,10 @@ use Rattle.swh_fastgrammar.specs.declared.fault.StreamWhy.TheVariants.{Place as 
 use Rattle.swh_fastmeaning.specs.Aims.{Aim, AllAims, Missing, blob_at}
 use Rattle.swh_fastmeaning.specs.Changes.{IsGivableChange}
 use Rattle.swh_fastmeaning.specs.Commands.{Changed, turned, put, if_there, changed, ◌>>=◌}
-use Rattle.swh_made.specs.Making.{name_of}
+use Rattle.swh_dedup.specs.Making.{name_of}
 use Rattle.swh_fastmeaning.specs.Stock.{IsLeafAmong, IsFileAmong, AreFilesAmong, IsFree}
 use Rattle.swh_fastload.proofs.FreePaths.{folder_paths}
-use Rattle.swh_made.proofs.Elements.{all_as, each_is, first_is, later_is}
+use Rattle.swh_dedup.proofs.Elements.{each_is, first_is, later_is}
 
 all_filtered : {X : Type 0} (P : X → Type 0) (test : X → Bool) (xs : List X) → AllByRecursion P xs → AllByRecursion P (filter test xs)
 all_filtered P test [] h = tt

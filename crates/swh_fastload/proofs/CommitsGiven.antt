@@ -10,6 +10,7 @@ use Rattle.swh_base.specs.Name.{IsId}
 use Rattle.swh_base.specs.Revision.{BeginsParent, revision_name}
 use Rattle.swh_base.specs.Manifest.{AreChildren, IsWellFormed}
 use Rattle.swh_base.proofs.Children.{one_list}
+use Rattle.swh_base.proofs.Elementary.{all_as}
 use Rattle.swh_revfmt.specs.Plain.{RevisionRest, revision_rest, plain_revision_text}
 use Rattle.swh_model.specs.Meaning.{Made}
 use Rattle.swh_trees.specs.Grove.{Grove, folder_map}
@@ -17,12 +18,12 @@ use Rattle.swh_trees.specs.Makes.{IsNumbered}
 use Rattle.swh_trees.specs.Objects.{AreDirectoryObjects, IsDirectoryObject}
 use Rattle.swh_forest.specs.PathMap.{PathMap, HasFolder, held, held_by}
 use Rattle.swh_trees.specs.Directory.{directory_id, directory_of}
-use Rattle.swh_made.specs.Making.{made_from, made, name_of, object_of, names_of_made, HaveIds}
+use Rattle.swh_dedup.specs.Making.{made_from, made, name_of, object_of, names_of_made, HaveIds}
 use Rattle.swh_fastmeaning.specs.Commands.{revision_parts}
-use Rattle.swh_made.specs.Giving.{IsReady, AreReady}
+use Rattle.swh_dedup.specs.Giving.{IsReady, AreReady}
 use Rattle.swh_fastmeaning.specs.Stock.{folder_made, AreFilesAmong}
-use Rattle.swh_made.proofs.Elements.{contains_map, all_as, first_is, later_is, none_is, first_or_later}
-use Rattle.swh_made.proofs.Givens.{AreAlso}
+use Rattle.swh_dedup.proofs.Elements.{contains_map, first_is, later_is, none_is, first_or_later}
+use Rattle.swh_dedup.proofs.Givens.{AreAlso}
 use Rattle.swh_fastmeaning.proofs.Tags.{named_id}
 use Rattle.swh_fastload.proofs.DirectoryKids.{directory_name, directory_kids}
 

@@ -13,14 +13,15 @@ use Rattle.swh_base.specs.Revision.{revision_name}
 use Rattle.swh_base.specs.Manifest.{IsWellFormed}
 use Rattle.swh_revfmt.specs.Plain.{plain_revision_text}
 use Rattle.swh_base.specs.Directory.{directory_text}
+use Rattle.swh_base.proofs.Elementary.{all_as}
 use Rattle.swh_trees.specs.Directory.{directory_id, directory_of}
 use Rattle.swh_model.specs.Meaning.{Made, directory}
 use Rattle.swh_trees.specs.declared.tree.Tree.{Tree}
 use Rattle.swh_trees.specs.Grove.{Grove, folder_map, map_of}
 use Rattle.swh_forest.specs.Roots.{IsBelow, map_of_number}
 use Rattle.swh_forest.specs.PathMap.{PathMap, HasFolder, held}
-use Rattle.swh_made.specs.Making.{made_from, made, name_of, object_of, names_of_made, HaveIds}
-use Rattle.swh_made.specs.Whole.{content_name}
+use Rattle.swh_dedup.specs.Making.{made_from, made, name_of, object_of, names_of_made, HaveIds}
+use Rattle.swh_dedup.specs.Whole.{content_name}
 use Rattle.swh_fastmeaning.specs.Aims.{Aim, AllAims, Missing, with_mark, with_tip, aim_with, aims_with}
 use Rattle.swh_fastmeaning.specs.Changes.{IsGivableChange, changed_of}
 use Rattle.swh_fastmeaning.specs.Commands.{Changed, Making, Makes, Targets, revision, revision_parts, committed, step, first_parent, starting_tree, aim_of, ◌>>=◌}
@@ -28,13 +29,13 @@ use Rattle.swh_fastload.specs.Committing.{IsPrepared, command_of, commit_made, r
 use Rattle.swh_fastmeaning.specs.Feeding.{ExplainsFeed}
 use Rattle.swh_fastmeaning.specs.Parting.{ExplainsBody}
 use Rattle.swh_fastmeaning.specs.Stock.{Stock, stock, loading_of, IsAimAmong, AreAimsAmong, IsGivenGrove, IsStocked, Leads, folder_made, IsFileAmong, AreFilesAmong, IsFree}
-use Rattle.swh_made.specs.Giving.{AreReady, Gives}
+use Rattle.swh_dedup.specs.Giving.{AreReady, Gives}
 use Rattle.swh_fastload.specs.declared.commit.Commit.{Commit}
 use Rattle.swh_fastload.specs.declared.commit.CommitText.{CommitText}
 use Rattle.swh_fastload.specs.declared.commit.Prepared.{Prepared}
 use Rattle.swh_fastmeaning.specs.declared.feed_fault.FeedFault.{FeedFault}
-use Rattle.swh_made.proofs.Elements.{contains_map, all_as, first_is, first_or_later, none_is}
-use Rattle.swh_made.proofs.Givens.{AreAlso, more_names, ready_append}
+use Rattle.swh_dedup.proofs.Elements.{contains_map, first_is, first_or_later, none_is}
+use Rattle.swh_dedup.proofs.Givens.{AreAlso, more_names, ready_append}
 use Rattle.swh_fastmeaning.proofs.AimForms.{with_mark-map, with_tip-map, aims_same, aims_more, marked_among, tipped_among, blob_among}
 use Rattle.swh_fastload.proofs.ParentsFound.{first_among, parents_among}
 use Rattle.swh_fastload.proofs.FreePaths.{held_free, none_free}

@@ -14,7 +14,7 @@ use Rattle.swh_trees.specs.Grove.{Grove, Keeps, StandsFor, IsTree, map_of}
 use Rattle.swh_trees.specs.Makes.{Makes, ExplainsTree}
 use Rattle.swh_forest.specs.PathMap.{PathMap, held}
 use Rattle.swh_trees.specs.Directory.{directory_of}
-use Rattle.swh_made.specs.Making.{made}
+use Rattle.swh_dedup.specs.Making.{made}
 use Rattle.swh_fastmeaning.specs.Aims.{Aim, AllAims, Missing, aim_with, aims_with}
 use Rattle.swh_fastmeaning.specs.Changes.{AreShort, IsChangedTo, ExplainsChange, changed_of}
 use Rattle.swh_fastmeaning.specs.Commands.{Changed, IsDirectoryIn, Targets, Making, Makes as MakesObject, committed, revision, step, first_parent, commits_at, parents_of, starting_tree, all_changed, ◌>>=◌}

@@ -12,15 +12,16 @@ use Rattle.swh_base.specs.Name.{IsId}
 use Rattle.swh_base.specs.Directory.{DirectoryEntry, IsEntry, IsEntryName, IsMode, sort_key, directory_text, child_of, children_of}
 use Rattle.swh_base.specs.Manifest.{AreChildren}
 use Rattle.swh_base.proofs.DirectoryLemmas.{read_on, entry-not_nil, are-each}
+use Rattle.swh_base.proofs.Elementary.{all_as}
 use Rattle.swh_entries.specs.declared.entry.Leaf.{Leaf}
 use Rattle.swh_forest.specs.Leaf.{IsLeafMode}
 use Rattle.swh_forest.specs.PathMap.{PathMap, same, same_path, leaf_at, rest_beside, held_by, HasFolder}
 use Rattle.swh_trees.specs.Directory.{directory_id, insert_by, insert_entry, ordered, first, entry_at, directory_within, depth_of, directory_of}
 use Rattle.swh_forest.proofs.Grafts.{same_is}
 use Rattle.swh_forest.proofs.Lookups.{path_is, path_self}
-use Rattle.swh_made.specs.Whole.{content_name}
+use Rattle.swh_dedup.specs.Whole.{content_name}
 use Rattle.swh_fastmeaning.specs.Stock.{IsLeafAmong, IsFileAmong, AreFilesAmong}
-use Rattle.swh_made.proofs.Elements.{all_as, each_is, first_is, later_is, first_or_later}
+use Rattle.swh_dedup.proofs.Elements.{each_is, first_is, later_is, first_or_later}
 
 -- ## What stands in an ordered listing
 

@@ -7,7 +7,7 @@ use Rattle.swh_forest.specs.PathMap.{PathMap, same, same_path, leaf_at, begins, 
 use Rattle.swh_forest.proofs.Grafts.{same_is, same_self}
 use Rattle.swh_forest.proofs.Lookups.{path_is, begins-more}
 use Rattle.swh_fastmeaning.specs.Stock.{IsFree}
-use Rattle.swh_made.proofs.Elements.{first_or_later, first_is, later_is, none_is}
+use Rattle.swh_dedup.proofs.Elements.{first_or_later, first_is, later_is, none_is}
 
 abbrev File : Type 0
 File = List (List ℕ) × Leaf

@@ -4,8 +4,8 @@ use Rattle.std.specs.Prelude.{Result, Ok, Err, IfOk, IfErr}
 use Rattle.swh_base.specs.declared.kind.Kind.{Kind}
 use Rattle.swh_base.specs.declared.entry.Entry.{Entry}
 use Rattle.swh_model.specs.Meaning.{Made, StreamMeaning}
-use Rattle.swh_made.specs.declared.objects.Objects.{Objects}
-use Rattle.swh_made.specs.Making.{made}
+use Rattle.swh_dedup.specs.declared.objects.Objects.{Objects}
+use Rattle.swh_dedup.specs.Making.{made}
 use Rattle.swh_fastgrammar.specs.declared.command.Command.{Command}
 use Rattle.swh_fastlex.specs.ReadOn.{IsQuietBut}
 use Rattle.swh_fastrows.specs.Places.{HoldsFront, position}

@@ -4,6 +4,7 @@ use Rattle.std.specs.Prelude.{◌≢◌, unwrap_or}
 use Rattle.std.specs.List.{AllByRecursion}
 use Rattle.swh_base.specs.declared.kind.Kind.{Kind}
 use Rattle.swh_base.specs.declared.kind.Kind.TheVariants.{Content, Directory, Revision, Release, Snapshot}
+use Rattle.swh_base.proofs.Elementary.{all_as}
 use Rattle.swh_model.specs.Meaning.{Made, content}
 use Rattle.swh_model.proofs.Entries.{all-append}
 use Rattle.swh_forest.specs.PathMap.{PathMap}
@@ -16,7 +17,7 @@ use Rattle.swh_fastgrammar.specs.declared.command.Command.{Command}
 use Rattle.swh_fastgrammar.specs.declared.command.Command.TheVariants.{Blob, Commit, Tag, Reset}
 use Rattle.swh_fastmeaning.specs.Aims.{Aim, Missing, with_tip, without_tip, commit_at, object_at}
 use Rattle.swh_fastmeaning.specs.Commands.{Changed, Targets, Making, Makes, marked, committed, tagged, only, revision, release, commit_parts, step, first_parent, commits_at, parents_of, starting_tree, all_changed, ◌>>=◌}
-use Rattle.swh_made.proofs.Elements.{all_as, each_is}
+use Rattle.swh_dedup.proofs.Elements.{each_is}
 use Rattle.swh_fastload.proofs.ChangedAll.{all_brings}
 
 by_content : Content ≡ Snapshot → ⊥

@@ -20,17 +20,17 @@ use Rattle.swh_fastmeaning.specs.Aims.{AllAims}
 use Rattle.swh_fastmeaning.specs.Commands.{Making, Makes}
 use Rattle.swh_fastmeaning.specs.Ending.{refs_limit, EndsParts, PassesEnd, ExplainsEnd}
 use Rattle.swh_fastmeaning.specs.Feeding.{Loading}
-use Rattle.swh_made.specs.Giving.{AreNew}
+use Rattle.swh_dedup.specs.Giving.{AreNew}
 use Rattle.swh_fastload.specs.Input.{beginning, MeansStream, Means, Breaks, MayBreak}
 use Rattle.swh_fastload.specs.Giving.{meaning_of}
-use Rattle.swh_made.specs.Making.{made_from, made, names_of_made}
+use Rattle.swh_dedup.specs.Making.{made_from, made, names_of_made}
 use Rattle.swh_fastload.specs.Reading.{feed_fault, HasRead, BreaksSo, IsQuiet}
 use Rattle.swh_fastmeaning.specs.Snapshots.{refs_of, snapshot_of}
-use Rattle.swh_made.specs.Whole.{names_of, AreWhole}
-use Rattle.swh_made.proofs.Elements.{first_or_later, first_is, none_is, from_map, each_is}
-use Rattle.swh_made.proofs.Givens.{new_push}
+use Rattle.swh_dedup.specs.Whole.{names_of, AreWhole}
+use Rattle.swh_dedup.proofs.Elements.{first_or_later, first_is, none_is, from_map, each_is}
+use Rattle.swh_dedup.proofs.Givens.{new_push}
 use Rattle.swh_fastload.proofs.Readings.{body_may}
-use Rattle.swh_made.proofs.Wholes.{same_names, whole_one, new_whole}
+use Rattle.swh_dedup.proofs.Wholes.{same_names, whole_one, new_whole}
 use Rattle.swh_fastload.proofs.Progresses.{carried}
 
 module _ (id : Kind → List ℕ → List ℕ) (head : Option (List ℕ)) where

@@ -19,7 +19,7 @@ use Rattle.swh_fastmeaning.specs.Changes.{ExplainsChange}
 use Rattle.swh_fastmeaning.specs.Commands.{first_parent, commits_at, parents_of, ◌>>=◌}
 use Rattle.swh_fastload.specs.Committing.{HasParents}
 use Rattle.swh_fastmeaning.specs.Missings.{ExplainsMissing}
-use Rattle.swh_made.specs.Making.{names_of_made}
+use Rattle.swh_dedup.specs.Making.{names_of_made}
 use Rattle.swh_fastmeaning.specs.Stock.{IsAimAmong, AreAimsAmong}
 use Rattle.swh_fastmeaning.specs.declared.feed_fault.FeedFault.{FeedFault}
 use Rattle.swh_fastmeaning.specs.declared.feed_fault.FeedFault.TheVariants.{BadStream, Limit, Memory}

@@ -9,17 +9,17 @@ use Rattle.swh_base.specs.declared.entry.Entry.{Entry}
 use Rattle.swh_object.specs.Object.{IsObject}
 use Rattle.swh_model.specs.Meaning.{Made}
 use Rattle.swh_fastgrammar.specs.declared.command.Command.{Command}
-use Rattle.swh_made.specs.Making.{made_from, made}
+use Rattle.swh_dedup.specs.Making.{made_from, made}
 use Rattle.swh_fastrows.specs.Outcome.{StartsWith}
 use Rattle.swh_fastrows.specs.Places.{Position}
 use Rattle.swh_fastmeaning.specs.Aims.{Missing}
 use Rattle.swh_fastmeaning.specs.Commands.{◌>>=◌, Making, Makes, no_making, step, steps, then}
 use Rattle.swh_fastmeaning.specs.Feeding.{Loading, Feeds}
-use Rattle.swh_made.specs.Giving.{AreNew}
+use Rattle.swh_dedup.specs.Giving.{AreNew}
 use Rattle.swh_fastload.specs.Input.{beginning, AreCarriedOut}
 use Rattle.swh_fastload.specs.Progress.{StandsFor, HasLoaded}
-use Rattle.swh_made.proofs.Elements.{each_is, from_map}
-use Rattle.swh_made.proofs.Wholes.{whole_more}
+use Rattle.swh_dedup.proofs.Elements.{each_is, from_map}
+use Rattle.swh_dedup.proofs.Wholes.{whole_more}
 use Rattle.swh_fastload.proofs.InputLaws.{steps_append, then_keeps, then_makes}
 use Rattle.swh_fastread.proofs.Outcomes.{starts_join}
 

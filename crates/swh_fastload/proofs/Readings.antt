@@ -10,6 +10,7 @@ use Rattle.swh_base.specs.declared.entry.Entry.{Entry}
 use Rattle.swh_base.specs.declared.visit.Which.{Which}
 use Rattle.swh_base.specs.declared.visit.Which.TheVariants.{Body}
 use Rattle.swh_base.specs.Limits.{body_limit}
+use Rattle.swh_base.proofs.Elementary.{all_as}
 use Rattle.swh_model.specs.Meaning.{Made}
 use Rattle.swh_model.proofs.Entries.{all-append}
 use Rattle.swh_fastgrammar.specs.declared.command.Command.{Command}
@@ -23,7 +24,7 @@ use Rattle.swh_fastrows.specs.Outcome.{IsFaultWithin, PassesFirst, StartsWith}
 use Rattle.swh_fastlex.specs.ReadOn.{IsQuietBut}
 use Rattle.swh_fastlex.specs.declared.source.TheConstants.{WINDOW}
 use Rattle.swh_fastrows.specs.Failing.{MayPass, MayFail}
-use Rattle.swh_fastrows.specs.Places.{Place, Position, HoldsFront, left, position}
+use Rattle.swh_fastrows.specs.Places.{ReaderState, Position, HoldsFront, left, position}
 use Rattle.swh_fastread.specs.Steps.{IsStreamBefore, EndsHere, done_line}
 use Rattle.swh_fastread.specs.Standing.{Standing, LeadsOn, Answers, ending_of}
 use Rattle.swh_fastread.proofs.Outcomes.{before_carries, fault_carries, limit_carries, carries_with, starts_join}
@@ -32,17 +33,17 @@ use Rattle.swh_fastmeaning.specs.declared.feed_fault.FeedFault.TheVariants.{BadS
 use Rattle.swh_fastmeaning.specs.Aims.{Missing}
 use Rattle.swh_fastmeaning.specs.Commands.{Making, no_making, Makes, step}
 use Rattle.swh_fastmeaning.specs.Feeding.{Loading, IsTooLong, ExplainsFeed}
-use Rattle.swh_made.specs.Giving.{AreNew}
+use Rattle.swh_dedup.specs.Giving.{AreNew}
 use Rattle.swh_fastload.specs.declared.bad.InputFault.{InputFault}
 use Rattle.swh_fastload.specs.declared.bad.InputFault.TheVariants.{ReadFault}
 use Rattle.swh_fastload.specs.Input.{beginning, BreaksAt, PassesAt, StopsAt, Breaks, MayBreak}
 use Rattle.swh_fastload.specs.Loads.{no_loading, FeedsTo}
-use Rattle.swh_made.specs.Making.{made_from, made}
+use Rattle.swh_dedup.specs.Making.{made_from, made}
 use Rattle.swh_fastload.specs.Progress.{StandsFor, HasLoaded}
 use Rattle.swh_fastload.specs.Reading.{read_fault, feed_fault, HasGiven, HasCome, HasRead, StopsAtEnd, ReadsUpTo, FailsSo}
-use Rattle.swh_made.proofs.Elements.{none_is, all_as}
+use Rattle.swh_dedup.proofs.Elements.{none_is}
 use Rattle.swh_fastload.proofs.MadeKinds.{no_snapshot}
-use Rattle.swh_made.proofs.Wholes.{new_append}
+use Rattle.swh_dedup.proofs.Wholes.{new_append}
 use Rattle.swh_fastload.proofs.Progresses.{loaded_more, carried}
 
 -- Where a count rose since later, it rose since earlier.
@@ -59,7 +60,7 @@ pub body_may : (which : Which) (number : ℕ) → which ≡ Body → body_limit 
 body_may which number e above = subst (λ (w : Which). MayPass w number) (sym e) above
 
 -- What is left of a source whose reader was closed.
-pub reads_up_to : (text other : List ℕ) (place : Place) (now : List ℕ) → text ≡ other → StopsAtEnd text place → HoldsFront place.buffered place.rest now → ReadsUpTo other now
+pub reads_up_to : (text other : List ℕ) (place : ReaderState) (now : List ℕ) → text ≡ other → StopsAtEnd text place → HoldsFront place.buffered place.rest now → ReadsUpTo other now
 reads_up_to text other place now same s h = record {
   commands = s.commands;
   ending = left place;
@@ -74,11 +75,11 @@ reads_up_to text other place now same s h = record {
     by_held (inr e) = let within = h.within in omega (arith, within, ap length e, length-append place.held h.front)
 
 module _ (id : Kind → List ℕ → List ℕ) where
-  pub has_read : (text : List ℕ) (old new : Place) (promised : Bool) (state : Result Loading FeedFault) (es : List Entry) → HasCome id text (position old promised) state es → EndsHere old new promised → HasRead id text state es
+  pub has_read : (text : List ℕ) (old new : ReaderState) (promised : Bool) (state : Result Loading FeedFault) (es : List Entry) → HasCome id text (position old promised) state es → EndsHere old new promised → HasRead id text state es
   has_read text old new promised state es h e = record { rest = position old promised; come = h; ends = e.stream.stream }
 
   -- The stream ends where its reader stands.
-  pub stops_at_end : (text : List ℕ) (old new : Place) (promised : Bool) (state : Result Loading FeedFault) (es : List Entry) → HasCome id text (position old promised) state es → EndsHere old new promised → StopsAtEnd text new
+  pub stops_at_end : (text : List ℕ) (old new : ReaderState) (promised : Bool) (state : Result Loading FeedFault) (es : List Entry) → HasCome id text (position old promised) state es → EndsHere old new promised → StopsAtEnd text new
   stops_at_end text old new promised state es h e = record {
     commands = h.loaded.commands ++ [];
     stream = carries_with (λ n cs. IsStreamBefore n.at n.promised n.left cs (left new)) (before_carries (left new)) (beginning text) (position old promised) h.loaded.commands [] h.loaded.starts e.stream;
@@ -102,7 +103,7 @@ module _ (id : Kind → List ℕ → List ℕ) where
   nothing_stands : StandsFor id no_loading [] no_making
   nothing_stands = record { aims = refl; given = refl; sound = λ o h. absurd (none_is o h); full = none_made; whole = record { each = tt; kids = tt } }
 
-  pub nothing_come : (place : Place) (promised : Bool) (state : Result Loading FeedFault) (es : List Entry) → place.at ≡ 0 → promised ≡ false → state ≡ Ok no_loading → es ≡ [] → HasCome id (left place) (position place promised) state es
+  pub nothing_come : (place : ReaderState) (promised : Bool) (state : Result Loading FeedFault) (es : List Entry) → place.at ≡ 0 → promised ≡ false → state ≡ Ok no_loading → es ≡ [] → HasCome id (left place) (position place promised) state es
   nothing_come place promised state es a p e n =
       let here : beginning (left place) ≡ position place promised =
       ap (λ (k : ℕ). let q : Position = record { at = k; promised = false; left = left place } in q) (sym a) ∙ ap (λ (b : Bool). let q : Position = record { at = place.at; promised = b; left = left place } in q) (sym p) in
@@ -162,7 +163,7 @@ module _ (id : Kind → List ℕ → List ℕ) where
     stops = subst (λ a. P (step id a c)) h.loaded.stands.aims p;
   }
 
-  pub read_fails : (tells : Type 0) (place : Place) (promised : Bool) (text : List ℕ) (state : Result Loading FeedFault) (es : List Entry) (before after : ℕ) (fail : ReadFail) → (tells → HasCome id text (position place promised) state es) → (tells → Explains place promised fail) → (fail ≡ SourceFailed → Rose before after) → MayFail fail → FailsSo id tells text before after (read_fault fail)
+  pub read_fails : (tells : Type 0) (place : ReaderState) (promised : Bool) (text : List ℕ) (state : Result Loading FeedFault) (es : List Entry) (before after : ℕ) (fail : ReadFail) → (tells → HasCome id text (position place promised) state es) → (tells → Explains place promised fail) → (fail ≡ SourceFailed → Rose before after) → MayFail fail → FailsSo id tells text before after (read_fault fail)
   unfolding Breaks MayBreak
   read_fails tells place promised text state es before after (BadRead at why) h e r may = (tt, λ told head. inl (fault_breaks text (position place promised) state es at why (h told) (e told)))
   read_fails tells place promised text state es before after SourceFailed h e r may = r refl

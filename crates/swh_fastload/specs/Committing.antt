@@ -12,7 +12,7 @@ use Rattle.swh_model.specs.Meaning.{Made}
 use Rattle.swh_trees.specs.declared.tree.Tree.{Tree}
 use Rattle.swh_trees.specs.Grove.{Grove, Keeps, map_of}
 use Rattle.swh_trees.specs.Makes.{Makes}
-use Rattle.swh_made.specs.Making.{made, name_of, object_of}
+use Rattle.swh_dedup.specs.Making.{made, name_of, object_of}
 use Rattle.swh_fastgrammar.specs.declared.command.At.{At}
 use Rattle.swh_fastgrammar.specs.declared.command.Commitish.{Commitish}
 use Rattle.swh_fastgrammar.specs.declared.command.Command.{Command}
@@ -20,7 +20,7 @@ use Rattle.swh_fastgrammar.specs.declared.command.Command.TheVariants.{Commit as
 use Rattle.swh_fastmeaning.specs.Aims.{Aim, AllAims, Missing, aim_with}
 use Rattle.swh_fastmeaning.specs.Changes.{AreShort, IsOver, changed_of}
 use Rattle.swh_fastmeaning.specs.Commands.{Changed, IsDirectoryIn, first_parent, commits_at, parents_of, starting_tree, all_changed}
-use Rattle.swh_made.specs.Giving.{Gives}
+use Rattle.swh_dedup.specs.Giving.{Gives}
 use Rattle.swh_fastload.specs.declared.commit.Commit.{Commit}
 use Rattle.swh_fastload.specs.declared.commit.Prepared.{Prepared}
 use Rattle.swh_fastload.specs.declared.commit.CommitText.{CommitText}

@@ -5,10 +5,10 @@ use Rattle.swh_base.specs.declared.entry.Entry.{Entry}
 use Rattle.swh_base.specs.Snapshot.{snapshot_name}
 use Rattle.swh_outside.specs.Faults.{Rose}
 use Rattle.swh_model.specs.Meaning.{Made, StreamMeaning}
-use Rattle.swh_made.specs.declared.objects.Objects.{Objects}
-use Rattle.swh_made.specs.Giving.{AreNew}
-use Rattle.swh_made.specs.Making.{made}
-use Rattle.swh_made.specs.Whole.{AreWhole, names_of}
+use Rattle.swh_dedup.specs.declared.objects.Objects.{Objects}
+use Rattle.swh_dedup.specs.Giving.{AreNew}
+use Rattle.swh_dedup.specs.Making.{made}
+use Rattle.swh_dedup.specs.Whole.{AreWhole, names_of}
 use Rattle.swh_fastgrammar.specs.declared.command.Command.{Command}
 use Rattle.swh_fastrows.specs.Outcome.{StartsWith}
 use Rattle.swh_fastrows.specs.Places.{Position, position}

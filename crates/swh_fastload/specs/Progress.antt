@@ -4,8 +4,8 @@ use Rattle.swh_base.specs.declared.kind.Kind.{Kind}
 use Rattle.swh_base.specs.declared.entry.Entry.{Entry}
 use Rattle.swh_model.specs.Meaning.{Made}
 use Rattle.swh_fastgrammar.specs.declared.command.Command.{Command}
-use Rattle.swh_made.specs.Making.{made}
-use Rattle.swh_made.specs.Whole.{AreWhole}
+use Rattle.swh_dedup.specs.Making.{made}
+use Rattle.swh_dedup.specs.Whole.{AreWhole}
 use Rattle.swh_fastrows.specs.Outcome.{StartsWith}
 use Rattle.swh_fastrows.specs.Places.{Position}
 use Rattle.swh_fastmeaning.specs.Commands.{Making, Makes, no_making, steps}

@@ -10,7 +10,7 @@ use Rattle.swh_fastrows.specs.declared.fail.ReadFail.TheVariants.{BadStream as B
 use Rattle.swh_fastrows.specs.Outcome.{IsStreamWithin}
 use Rattle.swh_fastgrammar.specs.declared.command.Command.{Command}
 use Rattle.swh_fastlex.specs.declared.source.TheConstants.{WINDOW}
-use Rattle.swh_fastrows.specs.Places.{Place, Position, left}
+use Rattle.swh_fastrows.specs.Places.{ReaderState, Position, left}
 use Rattle.swh_fastread.specs.Steps.{IsStreamBefore, done_line}
 use Rattle.swh_fastload.specs.declared.bad.BadStream.TheVariants.{Stream, Limit}
 use Rattle.swh_fastload.specs.declared.bad.InputFault.{InputFault}
@@ -18,9 +18,9 @@ use Rattle.swh_fastload.specs.declared.bad.InputFault.TheVariants.{Bad, ReadFaul
 use Rattle.swh_fastmeaning.specs.declared.feed_fault.FeedFault.{FeedFault}
 use Rattle.swh_fastmeaning.specs.declared.feed_fault.FeedFault.TheVariants.{BadStream as BadFeed, Limit as PassesBody, Memory as FeedMemory}
 use Rattle.swh_fastmeaning.specs.Feeding.{Loading}
-use Rattle.swh_made.specs.Giving.{AreNew}
+use Rattle.swh_dedup.specs.Giving.{AreNew}
 use Rattle.swh_fastload.specs.Input.{Breaks, MayBreak}
-use Rattle.swh_made.specs.Making.{made}
+use Rattle.swh_dedup.specs.Making.{made}
 use Rattle.swh_fastload.specs.Progress.{HasLoaded}
 
 -- why an input is refused whose stream is not read on
@@ -57,7 +57,7 @@ pub record HasRead (id : Kind → List ℕ → List ℕ) (text : List ℕ) (stat
   pub ends : IsStreamWithin rest.at rest.promised rest.left []
 
 -- The text is a stream, and where its reader stands all of it was read, or its line `done` is held.
-pub record StopsAtEnd (text : List ℕ) (place : Place) : Type 0 where
+pub record StopsAtEnd (text : List ℕ) (place : ReaderState) : Type 0 where
   pub commands : List Command
   pub stream : IsStreamBefore 0 false text commands (left place)
   pub held : (left place ≡ []) ⊎ (place.held ≡ done_line)

@@ -8,7 +8,7 @@ ghost use Rattle.swh_revfmt.specs.Plain.{plain_revision_text};
 ghost use Rattle.swh_model.specs.Meaning.{Made as MadeObject};
 ghost use Rattle.swh_base.specs.Text.{IsRef};
 ghost use Rattle.swh_trees.specs.Grove.{Grove, map_of, IsTree, StandsFor};
-ghost use Rattle.swh_made.specs.Making.{made_from, made, object_of, HaveIds};
+ghost use Rattle.swh_dedup.specs.Making.{made_from, made, object_of, HaveIds};
 ghost use Rattle.swh_fastmeaning.specs.Changes.{AreShort, HoldsContents, IsGivableChange, IsOver, changed_of};
 ghost use Rattle.swh_fastmeaning.specs.Commands.{step, first_parent, all_changed, revision_parts};
 ghost use Rattle.swh_fastmeaning.specs.Aims.{Aim, aims_with};
@@ -23,18 +23,18 @@ ghost use Rattle.swh_fastload.specs.Committing.{
   GivesCommit,
   ExplainsOver,
 };
-ghost use Rattle.swh_made.specs.Giving.{AreReady};
+ghost use Rattle.swh_dedup.specs.Giving.{AreReady};
 ghost use Rattle.swh_fastmeaning.specs.Stock.{IsStocked, Leads, loading_of};
 ghost use Rattle.swh_fastmeaning.specs.Parting.{ExplainsBody, stock_of};
 
 use crate::parents::{first_parent, parent_ids};
 use std::alloc::Global;
 use swh_base::{Bytes, Items, Kind, Memory, Name, Namer, Which};
+use swh_dedup::{Seen, give_all, whole_id};
 use swh_fastgrammar::{At, Change, Commitish, Start};
 use swh_fastmeaning::{
     Contents, FeedFault, MarksAndTips, Parts, Target, changed_tree, make_or_refuse,
 };
-use swh_made::{Seen, give_all, whole_id};
 use swh_object::Object;
 use swh_revfmt::{PlainRev, write_plain_rev};
 use swh_trees::{Made, Tree, TreeFault, Trees};

@@ -5,7 +5,7 @@ ghost use Rattle.std.specs.Option.{option_copied};
 ghost use Rattle.swh_base.specs.Snapshot.{IsBranch, AreBranches};
 ghost use Rattle.swh_object.specs.Object.{IsObject};
 ghost use Rattle.swh_model.specs.Meaning.{with_head};
-ghost use Rattle.swh_made.specs.Making.{made_from, names_of_made};
+ghost use Rattle.swh_dedup.specs.Making.{made_from, names_of_made};
 ghost use Rattle.swh_fastmeaning.specs.Ending.{IsHead, EndsParts, ExplainsEnd, refs_limit};
 ghost use Rattle.swh_fastmeaning.specs.Parting.{stock_of};
 ghost use Rattle.swh_fastmeaning.specs.Stock.{loading_of, IsStocked};

@@ -10,16 +10,16 @@ ghost use Rattle.swh_fastload.specs.Loaded.{making_of};
 ghost use Rattle.swh_fastload.specs.Reading.{ReadsUpTo};
 ghost use Rattle.swh_fastload.specs.Input.{Means};
 ghost use Rattle.swh_fastload.specs.Sourced.{MeansLeft, ExplainsSource};
-ghost use Rattle.swh_made.specs.Giving.{AreNew};
-ghost use Rattle.swh_made.specs.Whole.{HasAllThatIsReached};
+ghost use Rattle.swh_dedup.specs.Giving.{AreNew};
+ghost use Rattle.swh_dedup.specs.Whole.{HasAllThatIsReached};
 
 use crate::bad::InputFault;
 use crate::parts::{StreamPart, StreamParts};
 use std::alloc::Global;
 use swh_base::{Memory, Namer};
+use swh_dedup::Objects;
 use swh_fastlex::Window;
 use swh_fastread::Lent;
-use swh_made::Objects;
 use swh_object::Object;
 use swh_outside::Source;
 

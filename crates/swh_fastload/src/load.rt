@@ -9,7 +9,7 @@ ghost use Rattle.swh_fastmeaning.specs.Ending.{IsHead, EndsWith, ExplainsEnd};
 ghost use Rattle.swh_fastload.specs.Loads.{no_loading, FeedsTo, Refuses, Repeats};
 ghost use Rattle.swh_fastmeaning.specs.Parting.{stock_of};
 ghost use Rattle.swh_fastmeaning.specs.Stock.{loading_of, IsStocked, Leads};
-ghost use Rattle.swh_made.specs.Making.{names_of_made};
+ghost use Rattle.swh_dedup.specs.Making.{names_of_made};
 
 use crate::commit::{Commit, CommitText, feed_commit};
 use crate::ending::end_parts;
@@ -17,9 +17,9 @@ use crate::feeding::{feed_blob, feed_reset, feed_tag};
 use std::alloc::Global;
 use std::marker::Model;
 use swh_base::{Name, Namer, Shared};
+use swh_dedup::Seen;
 use swh_fastgrammar::Command;
 use swh_fastmeaning::{FeedFault, MarksAndTips, Parts};
-use swh_made::Seen;
 use swh_object::Object;
 use swh_trees::Trees;
 

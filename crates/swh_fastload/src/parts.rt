@@ -16,10 +16,10 @@ use crate::load::FastLoad;
 use std::alloc::{AllocError, Global};
 use std::marker::Model;
 use swh_base::{Name, Namer, Shared};
+use swh_dedup::Objects;
 use swh_fastlex::Window;
 use swh_fastmeaning::FeedFault;
 use swh_fastread::{ReadFail, Reader};
-use swh_made::Objects;
 use swh_object::Object;
 use swh_outside::Source;
 

@@ -11,6 +11,7 @@ use Rattle.std.specs.BTreeMap.{insert_entry, is_at}
 use Rattle.swh_base.specs.declared.kind.Kind.{Kind}
 use Rattle.swh_base.specs.declared.kind.Kind.TheVariants.{Content, Directory, Revision, Release, Snapshot}
 use Rattle.swh_base.specs.Text.{IsRef}
+use Rattle.swh_base.proofs.Elementary.{all_as}
 use Rattle.swh_model.specs.Meaning.{Made}
 use Rattle.swh_trees.specs.declared.tree.Tree.{Tree}
 use Rattle.swh_forest.specs.Roots.{IsBelow}
@@ -27,8 +28,7 @@ use Rattle.swh_fastmeaning.specs.Aims.{Aim, AllAims, Missing, or_missing, mark_a
 use Rattle.swh_fastmeaning.specs.Commands.{Changed, set_to, changed, all_changed, put, ◌>>=◌}
 use Rattle.swh_fastmeaning.specs.Stock.{IsAimAmong, IsTipAmong, AreAimsAmong}
 use Rattle.swh_fastmeaning.proofs.MappedMaps.{lookup-mapped, remove-mapped, insert-mapped}
-use Rattle.swh_made.proofs.Elements.{all_as}
-use Rattle.swh_made.proofs.Givens.{AreAlso, more_names}
+use Rattle.swh_dedup.proofs.Givens.{AreAlso, more_names}
 
 -- what is there, in another form
 abbrev pub ok_map : {X Y : Type 0} → (X → Y) → Result X Missing → Result Y Missing

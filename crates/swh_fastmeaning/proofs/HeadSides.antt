@@ -28,7 +28,7 @@ use Rattle.swh_fastmeaning.specs.Snapshots.{tip_branch, refs_of, snapshot_of}
 use Rattle.swh_fastmeaning.specs.Tips.{tip_of}
 use Rattle.swh_fastmeaning.specs.declared.aims.Target.{Target}
 use Rattle.std.specs.List.Sorted.{IsStrictlySortedBy}
-use Rattle.swh_made.specs.Making.{HaveIds, names_of_made, made_from}
+use Rattle.swh_dedup.specs.Making.{HaveIds, names_of_made, made_from}
 use Rattle.swh_fastmeaning.specs.Stock.{IsTipAmong}
 use Rattle.swh_fastmeaning.specs.Ending.{is_greater, head_to, Ascend, AreSides, middle, IsHead, ExplainsEnd, EndsParts, refs_limit}
 use Rattle.swh_base.specs.declared.entry.Entry.{Entry}

@@ -7,13 +7,14 @@ use Rattle.swh_base.specs.declared.kind.Kind.TheVariants.{Snapshot}
 use Rattle.swh_base.specs.declared.name.Name.{Name}
 use Rattle.swh_base.specs.declared.entry.Entry.{Entry}
 use Rattle.swh_base.specs.Text.{IsRef}
+use Rattle.swh_base.proofs.Elementary.{all_as}
 use Rattle.swh_model.specs.Meaning.{Made, content}
 use Rattle.swh_trees.specs.declared.tree.Tree.{Tree}
 use Rattle.swh_trees.specs.Grove.{Grove, StandsFor, folder_map, map_of, no_trees}
 use Rattle.swh_forest.specs.Roots.{IsBelow}
 use Rattle.swh_entries.specs.declared.entry.Leaf.{Leaf}
 use Rattle.swh_forest.specs.PathMap.{PathMap}
-use Rattle.swh_made.specs.Making.{made_from, made, name_of, names_of_made}
+use Rattle.swh_dedup.specs.Making.{made_from, made, name_of, names_of_made}
 use Rattle.swh_fastgrammar.specs.declared.command.Command.{Command}
 use Rattle.swh_fastgrammar.specs.declared.command.Command.TheVariants.{Blob, Reset}
 use Rattle.swh_fastgrammar.specs.declared.command.At.{At}
@@ -27,11 +28,11 @@ use Rattle.swh_fastmeaning.specs.Feeding.{ExplainsFeed}
 use Rattle.swh_fastmeaning.specs.Missings.{ExplainsMissing}
 use Rattle.swh_fastmeaning.specs.Parting.{ExplainsBody}
 use Rattle.swh_fastmeaning.specs.Stock.{Stock, stock, loading_of, IsAimAmong, AreAimsAmong, IsGivenGrove, IsStocked, GivesOwn, Leads, IsFileAmong}
-use Rattle.swh_made.specs.Giving.{Gives}
+use Rattle.swh_dedup.specs.Giving.{Gives}
 use Rattle.swh_fastmeaning.specs.declared.feed_fault.FeedFault.{FeedFault}
 use Rattle.swh_fastmeaning.specs.declared.feed_fault.FeedFault.TheVariants.{BadStream, Limit, Memory}
-use Rattle.swh_made.proofs.Elements.{contains_map, all_as, first_is}
-use Rattle.swh_made.proofs.Givens.{AreAlso, more_names}
+use Rattle.swh_dedup.proofs.Elements.{contains_map, first_is}
+use Rattle.swh_dedup.proofs.Givens.{AreAlso, more_names}
 use Rattle.swh_fastmeaning.proofs.AimForms.{ok_map, with_mark-map, with_tip-map, without_tip-map, commit_at-map, aims_more, marked_among, tipped_among, untipped_among, commit_among}
 
 -- a grove without folders

@@ -15,7 +15,7 @@ use Rattle.swh_base.proofs.Children.{one_list}
 use Rattle.swh_model.specs.Meaning.{head_branch, put_branch, with_head}
 use Rattle.swh_object.specs.Object.{IsObject}
 use Rattle.swh_fastmeaning.specs.Aims.{Aim, AllAims}
-use Rattle.swh_made.specs.Making.{made_from}
+use Rattle.swh_dedup.specs.Making.{made_from}
 use Rattle.swh_fastmeaning.specs.Snapshots.{tip_branch, snapshot_of}
 
 pub snapshot_children : (branches : List SnapshotBranch) (body : List ℕ) → AreBranches branches → body ≡ snapshot_text branches → AreChildren Snapshot body (filter_map branch_child branches)

@@ -10,12 +10,13 @@ use Rattle.swh_base.specs.Text.{IsRef, is_ref_byte}
 use Rattle.swh_base.specs.Manifest.{AreChildren, IsWellFormed}
 use Rattle.swh_base.proofs.Lacks.{ref-no_feed}
 use Rattle.swh_base.proofs.Children.{one_list}
+use Rattle.swh_base.proofs.Elementary.{all_as}
 use Rattle.swh_revfmt.specs.Plain.{PlainRelease, IsTagName, plain_release_text, release_rest}
 use Rattle.swh_model.specs.Meaning.{Made}
 use Rattle.swh_trees.specs.declared.tree.Tree.{Tree}
 use Rattle.swh_trees.specs.Grove.{map_of}
 use Rattle.swh_forest.specs.PathMap.{PathMap}
-use Rattle.swh_made.specs.Making.{made_from, name_of, object_of, names_of_made, HaveIds}
+use Rattle.swh_dedup.specs.Making.{made_from, name_of, object_of, names_of_made, HaveIds}
 use Rattle.swh_fastgrammar.specs.declared.command.Command.TheVariants.{Tag}
 use Rattle.swh_fastgrammar.specs.declared.command.At.{At}
 use Rattle.swh_fastgrammar.specs.declared.command.Commitish.{Commitish}
@@ -25,9 +26,9 @@ use Rattle.swh_fastmeaning.specs.Feeding.{ExplainsFeed}
 use Rattle.swh_fastmeaning.specs.Missings.{ExplainsMissing}
 use Rattle.swh_fastmeaning.specs.Parting.{ExplainsBody}
 use Rattle.swh_fastmeaning.specs.Stock.{Stock, stock, loading_of, AreAimsAmong, IsStocked, GivesOwn, Leads}
-use Rattle.swh_made.specs.Giving.{IsReady}
+use Rattle.swh_dedup.specs.Giving.{IsReady}
 use Rattle.swh_fastmeaning.specs.declared.feed_fault.FeedFault.{FeedFault}
-use Rattle.swh_made.proofs.Elements.{from_map, all_as, first_is}
+use Rattle.swh_dedup.proofs.Elements.{from_map, first_is}
 use Rattle.swh_fastmeaning.proofs.AimForms.{ok_map, with_mark-map, with_tip-map, object_at-map, aims_more, marked_among, tipped_among}
 use Rattle.swh_fastmeaning.proofs.Leadings.{gives_also, stocked_more, own_aim, own_form, own_only, explains_long, explains_missing}
 

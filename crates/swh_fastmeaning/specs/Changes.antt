@@ -10,7 +10,7 @@ use Rattle.swh_forest.specs.PathMap.{PathMap}
 pub use Rattle.swh_fastgrammar.specs.Givable.{FitsMode, IsGivableChange}
 use Rattle.swh_fastmeaning.specs.Aims.{Missing}
 use Rattle.swh_fastmeaning.specs.Commands.{Changed}
-use Rattle.swh_made.specs.Making.{made}
+use Rattle.swh_dedup.specs.Making.{made}
 use Rattle.swh_fastmeaning.specs.declared.feed_fault.FeedFault.{FeedFault}
 use Rattle.swh_fastmeaning.specs.declared.feed_fault.FeedFault.TheVariants.{BadStream, Limit, Memory}
 

@@ -12,7 +12,7 @@ use Rattle.swh_base.specs.Limits.{body_limit}
 use Rattle.swh_base.specs.Text.{IsRef}
 use Rattle.swh_base.specs.Snapshot.{SnapshotBranch, BranchIsBefore}
 use Rattle.swh_snpfmt.specs.Branches.{branch_views}
-use Rattle.swh_made.specs.Making.{made_from}
+use Rattle.swh_dedup.specs.Making.{made_from}
 use Rattle.swh_fastmeaning.specs.Aims.{AllAims}
 use Rattle.swh_fastmeaning.specs.Feeding.{Loading}
 use Rattle.swh_fastmeaning.specs.Snapshots.{snapshot_of, refs_of}

@@ -14,8 +14,8 @@ use Rattle.swh_fastmeaning.specs.Aims.{Missing}
 use Rattle.swh_fastmeaning.specs.Changes.{AreShort}
 pub use Rattle.swh_fastgrammar.specs.Givable.{IsGivable}
 use Rattle.swh_fastmeaning.specs.Commands.{Targets, Making, Makes, step}
-use Rattle.swh_made.specs.Making.{made_from, made}
-use Rattle.swh_made.specs.Giving.{AreNew}
+use Rattle.swh_dedup.specs.Making.{made_from, made}
+use Rattle.swh_dedup.specs.Giving.{AreNew}
 
 -- what is known between two commands: marks and tips, and the objects that were given, in their order
 pub record Loading : Type 0 where

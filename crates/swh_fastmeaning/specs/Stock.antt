@@ -16,11 +16,11 @@ use Rattle.swh_forest.specs.Roots.{IsBelow}
 use Rattle.swh_forest.specs.Leaf.{IsLeafMode}
 use Rattle.swh_forest.specs.PathMap.{PathMap, begins}
 use Rattle.swh_trees.specs.Directory.{directory_of}
-use Rattle.swh_made.specs.Making.{name_of, names_of_made, HaveIds}
-use Rattle.swh_made.specs.Whole.{content_name}
+use Rattle.swh_dedup.specs.Making.{name_of, names_of_made, HaveIds}
+use Rattle.swh_dedup.specs.Whole.{content_name}
 use Rattle.swh_fastmeaning.specs.Aims.{Aim, AllAims, aims_with}
 use Rattle.swh_fastmeaning.specs.Feeding.{Loading, Feeds}
-use Rattle.swh_made.specs.Giving.{Gives}
+use Rattle.swh_dedup.specs.Giving.{Gives}
 use Rattle.swh_fastgrammar.specs.declared.command.Command.{Command}
 
 -- trees, marks and tips, and the objects that were given

@@ -2,8 +2,8 @@
 ghost use Rattle.std.specs.Prelude.{◌≡◌, IfOk, IfErr};
 ghost use Rattle.swh_base.specs.Manifest.{IsWellFormed};
 ghost use Rattle.swh_object.specs.Object.{IsObject};
-ghost use Rattle.swh_made.specs.Making.{made_from, object_of, HaveIds};
-ghost use Rattle.swh_made.specs.Giving.{IsReady};
+ghost use Rattle.swh_dedup.specs.Making.{made_from, object_of, HaveIds};
+ghost use Rattle.swh_dedup.specs.Giving.{IsReady};
 ghost use Rattle.swh_fastmeaning.specs.Stock.{GivesOwn};
 ghost use Rattle.swh_fastmeaning.specs.Tips.{aim_of};
 ghost use Rattle.swh_fastmeaning.specs.Parting.{ExplainsBody};
@@ -12,7 +12,7 @@ use crate::aims::Target;
 use crate::feed_fault::FeedFault;
 use std::alloc::Global;
 use swh_base::{Kind, Namer, Which};
-use swh_made::{MakeFault, Seen, give_all, make_object};
+use swh_dedup::{MakeFault, Seen, give_all, make_object};
 use swh_object::Object;
 use swh_trees::Tree;
 

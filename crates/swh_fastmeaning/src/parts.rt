@@ -2,7 +2,7 @@
 
 use crate::aims::MarksAndTips;
 use swh_base::Namer;
-use swh_made::Seen;
+use swh_dedup::Seen;
 use swh_trees::Trees;
 
 /// The parts of a loader: the trees of commits, what marks and tips lead to, and the objects that were given.

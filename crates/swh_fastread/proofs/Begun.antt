@@ -10,7 +10,7 @@ use Rattle.swh_fastgrammar.specs.declared.fault.StreamWhy.TheVariants.{Grammar, 
 use Rattle.swh_fastrows.specs.Explains.{PartFails, DataFails, Stops, Explains}
 use Rattle.swh_fastgrammar.specs.Grammar.{◌▹◌, ◌▸◌, optional, line_at, line, nothing, contents, mark, oid, start_of, Item, IsItem}
 use Rattle.swh_fastgrammar.specs.Grammar.Item.{Says, Promise, Nothing}
-use Rattle.swh_fastrows.specs.Places.{Place, Took, Refuses}
+use Rattle.swh_fastrows.specs.Places.{ReaderState, Took, Refuses}
 use Rattle.swh_fastgrammar.specs.Row.{IsData, Placed}
 use Rattle.swh_fastgrammar.specs.Word.{NamesRef, NamesTag}
 use Rattle.swh_fastgrammar.proofs.Items.{author}
@@ -40,7 +40,7 @@ blob_back q more Nothing e h = let n : 1 ≡ 6 = kind q more Nothing (codes "blo
 abbrev pub blob_item : Option ℕ × List ℕ → Item
 blob_item v = Says (Blob v.0 v.1)
 
-pub blob_begun : (a b : Place) (at : ℕ) → Took a b (line_at at (codes "blob") ∷ []) → Within IsItem a b blob_rest blob_item
+pub blob_begun : (a b : ReaderState) (at : ℕ) → Took a b (line_at at (codes "blob") ∷ []) → Within IsItem a b blob_rest blob_item
 blob_begun a b at t = record {
   part = line_at at (codes "blob") ∷ [];
   some = λ e. cc;
@@ -68,7 +68,7 @@ tag_back q more Nothing name e h = let n : 3 ≡ 6 = kind q more Nothing (codes 
 abbrev pub tag_item : List ℕ → tag_value → Item
 tag_item name v = Says (Tag name v.0 v.1.0 v.1.1.0 v.1.1.1)
 
-pub tag_begun : (a b : Place) (at : ℕ) (name : List ℕ) → Took a b (line_at at (codes "tag " ++ name) ∷ []) → NamesTag name name → Within IsItem a b tag_after (tag_item name)
+pub tag_begun : (a b : ReaderState) (at : ℕ) (name : List ℕ) → Took a b (line_at at (codes "tag " ++ name) ∷ []) → NamesTag name name → Within IsItem a b tag_after (tag_item name)
 tag_begun a b at name t r = record {
   part = line_at at (codes "tag " ++ name) ∷ [];
   some = λ e. cc;
@@ -96,7 +96,7 @@ commit_back q more Nothing name e h = let n : 2 ≡ 6 = kind q more Nothing (cod
 abbrev pub commit_item : List ℕ → commit_value → Item
 commit_item name v = Says (Commit name v.0 v.1.0 v.1.1.0 v.1.1.1.0 v.1.1.1.1.0 (start_of v.1.1.1.1.1.0) v.1.1.1.1.1.1.0 v.1.1.1.1.1.1.1)
 
-pub commit_begun : (a b : Place) (at : ℕ) (name : List ℕ) → Took a b (line_at at (codes "commit " ++ name) ∷ []) → NamesRef name name → Within IsItem a b commit_after (commit_item name)
+pub commit_begun : (a b : ReaderState) (at : ℕ) (name : List ℕ) → Took a b (line_at at (codes "commit " ++ name) ∷ []) → NamesRef name name → Within IsItem a b commit_after (commit_item name)
 commit_begun a b at name t r = record {
   part = line_at at (codes "commit " ++ name) ∷ [];
   some = λ e. cc;
@@ -108,13 +108,13 @@ commit_begun a b at name t r = record {
 }
 
 -- what stops the reading of a command that is begun
-pub stops_explain : {X : Type 0} (a b : Place) (M : List Placed → X → Type 0) (f : X → Item) (fail : ReadFail) → Within IsItem a b M f → Wants M → Stops b fail → (p : Bool) → Explains a p fail
+pub stops_explain : {X : Type 0} (a b : ReaderState) (M : List Placed → X → Type 0) (f : X → Item) (fail : ReadFail) → Within IsItem a b M f → Wants M → Stops b fail → (p : Bool) → Explains a p fail
 stops_explain a b M f (BadStream at why) w o s p = absurd s
 stops_explain a b M f ReadFault w o s p = tt
 stops_explain a b M f (Limit which number) w o s p = break_limit a b p M f which number w o s
 stops_explain a b M f Memory w o s p = tt
 
-pub part_explains : {X Z : Type 0} (a b : Place) (M : List Placed → X → Type 0) (L : List Placed → Z → Type 0) (f : X → Item) (fail : ReadFail) → Within IsItem a b M f → Wants M → ((text : List ℕ) → Refuses L text → Refuses M text) → PartFails L b fail → (p : Bool) → Explains a p fail
+pub part_explains : {X Z : Type 0} (a b : ReaderState) (M : List Placed → X → Type 0) (L : List Placed → Z → Type 0) (f : X → Item) (fail : ReadFail) → Within IsItem a b M f → Wants M → ((text : List ℕ) → Refuses L text → Refuses M text) → PartFails L b fail → (p : Bool) → Explains a p fail
 part_explains a b M L f (BadStream at Grammar) w o r d p = break_line a b p M L f at false w o r d
 part_explains a b M L f (BadStream at End) w o r d p = break_end a b p M f at w o d
 part_explains a b M L f (BadStream at LeftOut) w o r d p = break_line a b p M L f at true w o r d
@@ -125,7 +125,7 @@ part_explains a b M L f ReadFault w o r d p = tt
 part_explains a b M L f (Limit which number) w o r d p = break_limit a b p M f which number w o d
 part_explains a b M L f Memory w o r d p = tt
 
-pub data_explains : {X : Type 0} (a b : Place) (M : List Placed → X → Type 0) (f : X → Item) (fail : ReadFail) → Within IsItem a b M f → Wants M → ((text : List ℕ) → Refuses contents text → Refuses M text) → ((q : Placed) (bytes next : List ℕ) → IsData q.row bytes next → (x : X) × M (q ∷ []) x) → DataFails b fail → (p : Bool) → Explains a p fail
+pub data_explains : {X : Type 0} (a b : ReaderState) (M : List Placed → X → Type 0) (f : X → Item) (fail : ReadFail) → Within IsItem a b M f → Wants M → ((text : List ℕ) → Refuses contents text → Refuses M text) → ((q : Placed) (bytes next : List ℕ) → IsData q.row bytes next → (x : X) × M (q ∷ []) x) → DataFails b fail → (p : Bool) → Explains a p fail
 data_explains a b M f (BadStream at Grammar) w o r m d p = break_line a b p M contents f at false w o r d
 data_explains a b M f (BadStream at End) w o r m (inl d) p = break_end a b p M f at w o d
 data_explains a b M f (BadStream at End) w o r m (inr d) p = break_data a b p M f at w o m d

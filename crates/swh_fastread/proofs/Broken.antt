@@ -7,7 +7,7 @@ use Rattle.swh_fastgrammar.specs.Fault.{BeginsStream, BeginsRows, is_left_out, I
 use Rattle.swh_fastgrammar.specs.Grammar.{many, Item, IsItem, is_promise, commands_of, IsStream}
 use Rattle.swh_base.specs.declared.visit.Which.{Which}
 use Rattle.swh_fastrows.specs.Outcome.{IsLineFaultWithin, IsEndFaultWithin, DataMayCome, PassesFirst}
-use Rattle.swh_fastrows.specs.Places.{Place, left, Took}
+use Rattle.swh_fastrows.specs.Places.{ReaderState, left, Took}
 use Rattle.swh_fastrows.specs.Within.{FirstLine, LinePasses, DataPasses, LineFits, Fits, AllFit}
 use Rattle.swh_fastgrammar.specs.Row.{Row, row_text, text_of, begins_with, IsData, Opens, IsRow, AreRows, Placed, placed, is_comment}
 use Rattle.swh_fastgrammar.proofs.Before.{no_item_first}
@@ -16,7 +16,8 @@ use Rattle.swh_fastgrammar.proofs.Kept.{AllKept, item_keeps}
 use Rattle.swh_fastgrammar.proofs.Parts.{cons_cut}
 use Rattle.swh_fastgrammar.proofs.Rows.{goes_on}
 use Rattle.swh_fastgrammar.proofs.Streams.{Stops, items_stop}
-use Rattle.swh_fastrows.proofs.Joins.{plain, plain_row, placed-append, placed_row, rows-append, joined, rows-next, allows-line, fronts, has_first, has_more, took_size}
+use Rattle.swh_fastrows.proofs.Joins.{plain, plain_row, placed-append, placed_row, rows-append, joined, rows-next, allows-line, fronts, took_size}
+use Rattle.swh_fastrows.proofs.Fitting.{in_middle}
 use Rattle.swh_fastread.proofs.Onward.{one_item, stops_inside}
 
 -- rows that go on from a part, and make an item with it
@@ -123,7 +124,7 @@ dead_line at p rows line rest g cs good one counts u no_end dead s =
         let none = (no_first (placed at rows) (q ∷ others) s.whole.items u (λ y k back j f h. dead y k j (ap (λ (z : Placed). z.row.line) (sym (cons_cut q y others (k ++ back) f).0) ∙ same) h) (subst (λ (z : List Placed). many IsItem z s.whole.items) cut s.whole.said)).1 in
         absurd cc
 
-abbrev pub line_fault : (a b : Place) (p : Bool) (part : List Placed) (line rest : List ℕ) (out : Bool) → Took a b part → left b ≡ line ++ 10 ∷ rest → (Contains line 10 → ⊥) → is_comment line ≡ false → is_left_out line ≡ out → Unfinished part → (part ≡ [] → line ≡ codes "done" → ⊥) → Dead part line → IsLineFault a.at p (left a) [] b.at out
+abbrev pub line_fault : (a b : ReaderState) (p : Bool) (part : List Placed) (line rest : List ℕ) (out : Bool) → Took a b part → left b ≡ line ++ 10 ∷ rest → (Contains line 10 → ⊥) → is_comment line ≡ false → is_left_out line ≡ out → Unfinished part → (part ≡ [] → line ≡ codes "done" → ⊥) → Dead part line → IsLineFault a.at p (left a) [] b.at out
 line_fault a b p part line rest out t e one counts o u no_end dead =
     let good : AreRows t.rows (line ++ 10 ∷ rest) = subst (AreRows t.rows) e t.good in
     let v : Unfinished (placed a.at t.rows) = subst Unfinished (sym t.those) u in
@@ -159,7 +160,7 @@ pub no_false : (p b : Bool) → p ≡ true → p || b ≡ false → ⊥
 no_false true b e f = cc
 no_false false b e f = cc
 
-abbrev pub end_fault : (a b : Place) (p : Bool) (part : List Placed) → Took a b part → Unfinished part → ((row : Row) (next : List ℕ) → left b ≡ row_text row ++ next → IsRow row next → ⊥) → (Contains (left b) 10 → ⊥) ⊎ BeginsStream a.at p (left a) → (part ≡ [] → left b ≡ [] → p ≡ true) → IsEndFault a.at p (left a) [] (b.at + length (left b))
+abbrev pub end_fault : (a b : ReaderState) (p : Bool) (part : List Placed) → Took a b part → Unfinished part → ((row : Row) (next : List ℕ) → left b ≡ row_text row ++ next → IsRow row next → ⊥) → (Contains (left b) 10 → ⊥) ⊎ BeginsStream a.at p (left a) → (part ≡ [] → left b ≡ [] → p ≡ true) → IsEndFault a.at p (left a) [] (b.at + length (left b))
 end_fault a b p part t u cut inside promised = record {
   rows = t.rows;
   rest = left b;
@@ -189,23 +190,19 @@ end_fault a b p part t u cut inside promised = record {
             ]
         on (r ∷ m) e f g = cut r (text_of m ++ s.ending) (f ∙ append_assoc (row_text r) (text_of m) s.ending) g.0
 
-in_middle : (a x : List ℕ) → Contains (a ++ 10 ∷ x) 10
-in_middle [] x = has_first 10 x refl
-in_middle (c ∷ a) x = has_more c (a ++ 10 ∷ x) (in_middle a x)
-
 -- bytes without LF begin no row
 pub no_row : (rest : List ℕ) → (Contains rest 10 → ⊥) → (row : Row) (next : List ℕ) → rest ≡ row_text row ++ next → IsRow row next → ⊥
 no_row rest none row next e h = none (subst (λ (t : List ℕ). Contains t 10) (sym (e ∙ append_assoc row.line (10 ∷ row.raw) next)) (in_middle row.line (row.raw ++ next)))
 
 -- The fault of a line within the limits, after rows that pass none.
-pub line_within : (a b : Place) (p : Bool) (part : List Placed) (line rest : List ℕ) (out : Bool) → Took a b part → left b ≡ line ++ 10 ∷ rest → (Contains line 10 → ⊥) → is_comment line ≡ false → is_left_out line ≡ out → Unfinished part → (part ≡ [] → line ≡ codes "done" → ⊥) → Dead part line → LineFits b.at (left b) → IsLineFaultWithin a.at p (left a) [] b.at out
+pub line_within : (a b : ReaderState) (p : Bool) (part : List Placed) (line rest : List ℕ) (out : Bool) → Took a b part → left b ≡ line ++ 10 ∷ rest → (Contains line 10 → ⊥) → is_comment line ≡ false → is_left_out line ≡ out → Unfinished part → (part ≡ [] → line ≡ codes "done" → ⊥) → Dead part line → LineFits b.at (left b) → IsLineFaultWithin a.at p (left a) [] b.at out
 line_within a b p part line rest out t e one counts o u no_end dead fits = record {
   fault = line_fault a b p part line rest out t e one counts o u no_end dead;
   fit = subst (AllFit a.at t.rows) e t.fit;
   line_fits = subst (λ (n : ℕ). LineFits n (line ++ 10 ∷ rest)) t.here (subst (LineFits b.at) e fits);
 }
 
-pub end_within : (a b : Place) (p : Bool) (part : List Placed) → Took a b part → Unfinished part → ((row : Row) (next : List ℕ) → left b ≡ row_text row ++ next → IsRow row next → ⊥) → (Contains (left b) 10 → ⊥) ⊎ BeginsStream a.at p (left a) → (part ≡ [] → left b ≡ [] → p ≡ true) → Fits b.at (left b) → IsEndFaultWithin a.at p (left a) [] (b.at + length (left b))
+pub end_within : (a b : ReaderState) (p : Bool) (part : List Placed) → Took a b part → Unfinished part → ((row : Row) (next : List ℕ) → left b ≡ row_text row ++ next → IsRow row next → ⊥) → (Contains (left b) 10 → ⊥) ⊎ BeginsStream a.at p (left a) → (part ≡ [] → left b ≡ [] → p ≡ true) → Fits b.at (left b) → IsEndFaultWithin a.at p (left a) [] (b.at + length (left b))
 end_within a b p part t u cut inside promised fits = record {
   fault = end_fault a b p part t u cut inside promised;
   fit = t.fit;
@@ -213,7 +210,7 @@ end_within a b p part t u cut inside promised fits = record {
 }
 
 -- A limit that is passed after rows that pass none and begin an item, or after none.
-pub limit_first : (a b : Place) (p : Bool) (part : List Placed) (which : Which) (number : ℕ) (t : Took a b part) → Unfinished part → LinePasses b.at (left b) which number ⊎ (DataPasses b.at (left b) which number × DataMayCome a.at p t.rows (left b)) → PassesFirst a.at p (left a) [] which number
+pub limit_first : (a b : ReaderState) (p : Bool) (part : List Placed) (which : Which) (number : ℕ) (t : Took a b part) → Unfinished part → LinePasses b.at (left b) which number ⊎ (DataPasses b.at (left b) which number × DataMayCome a.at p t.rows (left b)) → PassesFirst a.at p (left a) [] which number
 limit_first a b p part which number t u passes = record {
   rows = t.rows;
   rest = left b;
@@ -253,13 +250,13 @@ filled_rows at p rows part line next more bytes good those one counts d i h =
       },
     )
 
-pub filled_stream : (a b : Place) (p : Bool) (part : List Placed) (line next more bytes : List ℕ) → Took a b part → left b ≡ line ++ 10 ∷ next → (Contains line 10 → ⊥) → is_comment line ≡ false → IsData (record { line = line; raw = next ++ more }) bytes (codes "done\n") → (i : Item) → IsItem (part ++ record { at = b.at; row = record { line = line; raw = next ++ more } } ∷ []) i → BeginsStream a.at p (left a)
+pub filled_stream : (a b : ReaderState) (p : Bool) (part : List Placed) (line next more bytes : List ℕ) → Took a b part → left b ≡ line ++ 10 ∷ next → (Contains line 10 → ⊥) → is_comment line ≡ false → IsData (record { line = line; raw = next ++ more }) bytes (codes "done\n") → (i : Item) → IsItem (part ++ record { at = b.at; row = record { line = line; raw = next ++ more } } ∷ []) i → BeginsStream a.at p (left a)
 filled_stream a b p part line next more bytes t e one counts d i h =
     subst (BeginsStream a.at p) (sym (t.spelled ∙ ap (λ (z : List ℕ). text_of t.rows ++ z) e))
     (filled_rows a.at p t.rows part line next more bytes (subst (AreRows t.rows) e t.good) t.those one counts d i (subst (λ (n : ℕ). IsItem (part ++ record { at = n; row = record { line = line; raw = next ++ more } } ∷ []) i) t.here h))
 
 -- Data may come where they would end an item.
-pub data_may_come : (a b : Place) (p : Bool) (part : List Placed) (line raw bytes : List ℕ) (t : Took a b part) → FirstLine (left b) line → is_comment line ≡ false → IsData (record { line = line; raw = raw }) bytes (codes "done\n") → (i : Item) → IsItem (part ++ record { at = b.at; row = record { line = line; raw = raw } } ∷ []) i → DataMayCome a.at p t.rows (left b)
+pub data_may_come : (a b : ReaderState) (p : Bool) (part : List Placed) (line raw bytes : List ℕ) (t : Took a b part) → FirstLine (left b) line → is_comment line ≡ false → IsData (record { line = line; raw = raw }) bytes (codes "done\n") → (i : Item) → IsItem (part ++ record { at = b.at; row = record { line = line; raw = raw } } ∷ []) i → DataMayCome a.at p t.rows (left b)
 data_may_come a b p part line raw bytes t f counts d i h =
     let good : AreRows t.rows (line ++ 10 ∷ []) = rows-next t.rows (line ++ 10 ∷ f.rest) (line ++ 10 ∷ []) (allows-line line f.rest []) (subst (AreRows t.rows) f.spelled t.good) in
     record {

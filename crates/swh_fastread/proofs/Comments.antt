@@ -15,7 +15,7 @@ use Rattle.swh_fastrows.specs.declared.fail.ReadFail.{ReadFail}
 use Rattle.swh_fastrows.specs.declared.fail.ReadFail.TheVariants.{BadStream, ReadFault, Limit, Memory}
 use Rattle.swh_fastrows.specs.Explains.{Explains}
 use Rattle.swh_fastrows.specs.Outcome.{IsStreamWithin, IsLineFaultWithin, IsEndFaultWithin, IsFaultWithin, DataMayCome, PassesFirst}
-use Rattle.swh_fastrows.specs.Places.{Place, left, Took}
+use Rattle.swh_fastrows.specs.Places.{ReaderState, left, Took}
 use Rattle.swh_fastrows.specs.Within.{LinePasses, DataPasses, LineFits, Fits, AllFit}
 use Rattle.swh_fastrows.proofs.HeldLines.{data_counts}
 use Rattle.swh_fastrows.proofs.Joins.{placed-append, rows-append, fit-append, joined}
@@ -191,14 +191,14 @@ comment_limit at p rows x cs which number good fit n g = record {
 }
 
 -- Comments in front of the end of a stream.
-pub comments_end : (a b : Place) (p : Bool) (ending : List ℕ) → Took a b [] → IsStreamBefore b.at p (left b) [] ending → IsStreamBefore a.at p (left a) [] ending
+pub comments_end : (a b : ReaderState) (p : Bool) (ending : List ℕ) → Took a b [] → IsStreamBefore b.at p (left b) [] ending → IsStreamBefore a.at p (left a) [] ending
 comments_end a b p ending t w =
     let v : IsStreamBefore (a.at + length (text_of t.rows)) p (left b) [] ending = subst (λ (k : ℕ). IsStreamBefore k p (left b) [] ending) t.here w in
     let all : IsStreamBefore a.at p (text_of t.rows ++ left b) [] ending = record { stream = comment_stream_within a.at p t.rows (left b) [] t.good t.fit t.those v.stream; ends = v.ends } in
     subst (λ (z : List ℕ). IsStreamBefore a.at p z [] ending) (sym t.spelled) all
 
 -- Comments in front of a failure.
-pub comments_explain : (a b : Place) (p : Bool) (fail : ReadFail) → Took a b [] → Explains b p fail → Explains a p fail
+pub comments_explain : (a b : ReaderState) (p : Bool) (fail : ReadFail) → Took a b [] → Explains b p fail → Explains a p fail
 comments_explain a b p (BadStream at why) t f = subst (λ (z : List ℕ). IsFaultWithin a.at p z [] at why) (sym t.spelled) (comment_fault_within a.at p t.rows (left b) [] at why t.good t.fit t.those (subst (λ (k : ℕ). IsFaultWithin k p (left b) [] at why) t.here f))
 comments_explain a b p ReadFault t f = tt
 comments_explain a b p (Limit which number) t g = subst (λ (z : List ℕ). PassesFirst a.at p z [] which number) (sym t.spelled) (comment_limit a.at p t.rows (left b) [] which number t.good t.fit t.those (subst (λ (k : ℕ). PassesFirst k p (left b) [] which number) t.here g))

@@ -20,7 +20,7 @@ use Rattle.swh_fastlines.specs.Reading.{LineSays}
 use Rattle.swh_fastrows.specs.declared.fail.ReadFail.{ReadFail}
 use Rattle.swh_fastrows.specs.declared.fail.ReadFail.TheVariants.{BadStream, ReadFault, Limit, Memory}
 use Rattle.swh_fastrows.specs.Explains.{PartFails, DataFails, Explains, IsClear, Reads, Stops}
-use Rattle.swh_fastrows.specs.Places.{Place, left, Took, Part, OptionalPart, FoundPart, position}
+use Rattle.swh_fastrows.specs.Places.{ReaderState, left, Took, Part, OptionalPart, FoundPart, position}
 use Rattle.swh_fastread.specs.Tail.{IsOutside, IsSure, ReadsFrom, ReadsSome, ReadsAll, ReadsTail, ReadsStart, ChangeFails, TailFails}
 use Rattle.swh_fastread.proofs.Begun.{commit_item, commit_begun, commit_after, stops_explain, part_explains, data_explains}
 use Rattle.swh_fastread.proofs.Blobs.{found, found_part}
@@ -30,45 +30,45 @@ use Rattle.swh_fastread.proofs.Places.{mark_solid, oid_solid, author_solid, comm
 use Rattle.swh_fastread.proofs.Remains.{wants_optional, wants_skip, Within, Whole, Next, some_append, Wants, step_then, step_optional, step_skip, step_many, step_some, closing, whole, no_more, took_next}
 
 -- A commit's parent was read, in front of what may follow it.
-pub parent_read : (a b c : Place) (next : Bool) (o : Option (At Commitish)) (f : Option (At Commitish) × (List (At Commitish) × List (At Change)) → Item) → Within IsItem a b after_data f → IsSure c next → ReadsFrom b c next o → Within IsItem a c (many merge ▹ many change) (λ y. f (o, y))
+pub parent_read : (a b c : ReaderState) (next : Bool) (o : Option (At Commitish)) (f : Option (At Commitish) × (List (At Commitish) × List (At Change)) → Item) → Within IsItem a b after_data f → IsSure c next → ReadsFrom b c next o → Within IsItem a c (many merge ▹ many change) (λ y. f (o, y))
 parent_read a b c next None f w sure r =
     let s = r.1 sure in
     step_optional IsItem a b c from (many merge ▹ many change) f None from_solid commit_from w (record { took = r.0; refused = s.refused; counts = s.counts })
 parent_read a b c next (Some v) f w sure r = step_optional IsItem a b c from (many merge ▹ many change) f (Some v) from_solid commit_from w r
 
-pub merges_read : (a b c : Place) (next : Bool) (ms : List (At Commitish)) (f : List (At Commitish) × List (At Change) → Item) → Within IsItem a b (many merge ▹ many change) f → IsSure c next → ReadsAll merge b c next ms → Within IsItem a c (many change) (λ y. f (ms, y))
+pub merges_read : (a b c : ReaderState) (next : Bool) (ms : List (At Commitish)) (f : List (At Commitish) × List (At Change) → Item) → Within IsItem a b (many merge ▹ many change) f → IsSure c next → ReadsAll merge b c next ms → Within IsItem a c (many change) (λ y. f (ms, y))
 merges_read a b c next ms f w sure r =
     let s = r.stopped sure in
     step_many IsItem a b c merge (many change) f ms merge_solid commit_merge w (record { rows = r.some.rows; took = r.some.took; says = r.some.says; refused = s.refused; counts = s.counts })
 
-pub changes_read : (a b c : Place) (cs : List (At Change)) (f : List (At Change) → Item) → Within IsItem a b (many change) f → IsClear (position c false) → ReadsAll change b c false cs → Whole a c (f cs)
+pub changes_read : (a b c : ReaderState) (cs : List (At Change)) (f : List (At Change) → Item) → Within IsItem a b (many change) f → IsClear (position c false) → ReadsAll change b c false cs → Whole a c (f cs)
 changes_read a b c cs f w clear r =
     let s = r.stopped (inr clear) in
     whole a c (λ y. f cs) (step_many IsItem a b c change no_more (λ v. f v.0) cs change_solid (end_clash change change_solid) (closing IsItem a b (many change) f w) (record { rows = r.some.rows; took = r.some.took; says = r.some.says; refused = s.refused; counts = s.counts }))
 
 -- The tail was read as far as no limit is passed.
-pub tail_whole : (a b c : Place) (o : Option (At Commitish)) (ms : List (At Commitish)) (cs : List (At Change)) (f : Option (At Commitish) × (List (At Commitish) × List (At Change)) → Item) → Within IsItem a b after_data f → ReadsTail b c o ms cs → IsClear (position c false) → Whole a c (f (o, (ms, cs)))
+pub tail_whole : (a b c : ReaderState) (o : Option (At Commitish)) (ms : List (At Commitish)) (cs : List (At Change)) (f : Option (At Commitish) × (List (At Commitish) × List (At Change)) → Item) → Within IsItem a b after_data f → ReadsTail b c o ms cs → IsClear (position c false) → Whole a c (f (o, (ms, cs)))
 tail_whole a b c o ms cs f w r clear =
-    let second : IsSure r.second r.more = sure r.second r.more (λ e. subst (λ (p : Place). IsClear (position p false)) (r.last e) clear) in
+    let second : IsSure r.second r.more = sure r.second r.more (λ e. subst (λ (p : ReaderState). IsClear (position p false)) (r.last e) clear) in
     let first : IsSure r.first r.next = sure r.first r.next (λ e. second_clear e) in
     let w1 = parent_read a b r.first r.next o f w first r.reads_parent in
     let w2 = merges_read a r.first r.second r.more ms (λ y. f (o, y)) w1 second r.reads_merges in
     changes_read a r.second c cs (λ y. f (o, (ms, y))) w2 clear r.reads_changes
   where
-    sure : (p : Place) (next : Bool) → (next ≡ false → IsClear (position p false)) → IsSure p next
+    sure : (p : ReaderState) (next : Bool) → (next ≡ false → IsClear (position p false)) → IsSure p next
     sure p true h = inl refl
     sure p false h = inr (h refl)
 
     second_clear : r.next ≡ false → IsClear (position r.first false)
-    second_clear e = subst (λ (p : Place). IsClear (position p false)) (r.same e) (subst (λ (p : Place). IsClear (position p false)) (r.last (r.none e)) clear)
+    second_clear e = subst (λ (p : ReaderState). IsClear (position p false)) (r.same e) (subst (λ (p : ReaderState). IsClear (position p false)) (r.last (r.none e)) clear)
 
 -- the rows of a tail that was read
-pub record TailRows (old new : Place) (o : Option (At Commitish)) (ms : List (At Commitish)) (cs : List (At Change)) : Type 0 where
+pub record TailRows (old new : ReaderState) (o : Option (At Commitish)) (ms : List (At Commitish)) (cs : List (At Change)) : Type 0 where
   pub rows : List Placed
   pub took : Took old new rows
   pub says : after_data rows (o, (ms, cs))
 
-pub tail_rows : (b c : Place) (o : Option (At Commitish)) (ms : List (At Commitish)) (cs : List (At Change)) → ReadsTail b c o ms cs → TailRows b c o ms cs
+pub tail_rows : (b c : ReaderState) (o : Option (At Commitish)) (ms : List (At Commitish)) (cs : List (At Change)) → ReadsTail b c o ms cs → TailRows b c o ms cs
 tail_rows b c o ms cs r = by_parent o r.reads_parent
   where
     m : ReadsSome merge r.first r.second ms
@@ -89,7 +89,7 @@ tail_rows b c o ms cs r = by_parent o r.reads_parent
     by_parent (Some v) q = by_rows (Some v) q.rows q.took q.says
 
 -- A commit was read as far as no limit is passed.
-pub commit_reads : (a b c : Place) (o : Option (At Commitish)) (ms : List (At Commitish)) (cs : List (At Change)) (f : Option (At Commitish) × (List (At Commitish) × List (At Change)) → Item) (command : Command) → f (o, (ms, cs)) ≡ Says command → Within IsItem a b after_data f → ReadsTail b c o ms cs → Reads IsCommand a c command
+pub commit_reads : (a b c : ReaderState) (o : Option (At Commitish)) (ms : List (At Commitish)) (cs : List (At Change)) (f : Option (At Commitish) × (List (At Commitish) × List (At Change)) → Item) (command : Command) → f (o, (ms, cs)) ≡ Says command → Within IsItem a b after_data f → ReadsTail b c o ms cs → Reads IsCommand a c command
 commit_reads a b c o ms cs f command e w r =
     let t = tail_rows b c o ms cs r in
     reads_whole a c (w.part ++ t.rows) (f (o, (ms, cs))) command e (took_append a b c w.part t.rows w.took t.took) (w.remains.forth t.rows (o, (ms, cs)) t.says) (tail_whole a b c o ms cs f w r)
@@ -116,7 +116,7 @@ inline_rows line mode path (Move d p) text back h e s b = let n : 77 ≡ 82 = ap
 inline_rows line mode path Clear text back h e s b = let n : 77 ≡ 100 = ap first (sym h.1 ∙ e) in absurd (omega (arith, n))
 
 -- the line of an inline change, behind which its data and other changes come
-pub step_inline : {V : Type 0} (R : List Placed → V → Type 0) (a b c : Place) (line : List ℕ) (mode : ℕ) (path : List ℕ) (f : List (At Change) × Unit {0} → V) → Within R a b (many change ▹ no_more) f → ((bytes : List ℕ) → LineSays line (Set mode (Inline bytes) path)) → Took b c (line_at b.at line ∷ []) → Within R a c after_line (λ v. f (record { at = b.at; it = Set mode (Inline v.0) path } ∷ v.1.0, tt))
+pub step_inline : {V : Type 0} (R : List Placed → V → Type 0) (a b c : ReaderState) (line : List ℕ) (mode : ℕ) (path : List ℕ) (f : List (At Change) × Unit {0} → V) → Within R a b (many change ▹ no_more) f → ((bytes : List ℕ) → LineSays line (Set mode (Inline bytes) path)) → Took b c (line_at b.at line ∷ []) → Within R a c after_line (λ v. f (record { at = b.at; it = Set mode (Inline v.0) path } ∷ v.1.0, tt))
 step_inline {V} R a b c line mode path f w says t = record {
   part = w.part ++ q ∷ [];
   some = some_append w.part (q ∷ []) w.some;
@@ -159,20 +159,20 @@ wants_line : Wants after_line
 wants_line = record { none = none_then contents (many change ▹ no_more) contents_solid; complete = completes_data (many change ▹ no_more) ([], tt) ([], [], refl, refl, refl) }
 
 -- a failed source, and want of memory
-outside_explains : (a : Place) (fail : ReadFail) → IsOutside fail → (p : Bool) → Explains a p fail
+outside_explains : (a : ReaderState) (fail : ReadFail) → IsOutside fail → (p : Bool) → Explains a p fail
 outside_explains a (BadStream at why) s p = absurd s
 outside_explains a ReadFault s p = tt
 outside_explains a (Limit which number) s p = absurd s
 outside_explains a Memory s p = tt
 
 -- what stops a change in a commit that is begun
-change_explains : (a b : Place) (f : List (At Change) × Unit {0} → Item) (fail : ReadFail) → Within IsItem a b (many change ▹ no_more) f → ChangeFails b fail → (p : Bool) → Explains a p fail
+change_explains : (a b : ReaderState) (f : List (At Change) × Unit {0} → Item) (fail : ReadFail) → Within IsItem a b (many change ▹ no_more) f → ChangeFails b fail → (p : Bool) → Explains a p fail
 change_explains a b f fail w (inl s) p = outside_explains a fail s p
 change_explains a b f fail w (inr l) p =
     let u = step_inline IsItem a b l.after l.text l.mode l.path f w l.says l.took in
     data_explains a l.after after_line (λ v. f (record { at = b.at; it = Set l.mode (Inline v.0) l.path } ∷ v.1.0, tt)) fail u wants_line (refuses_then contents (many change ▹ no_more) contents_solid) (λ q bytes next d. ((bytes, ([], tt)), (q ∷ [], [], refl, (q, next, refl, d), ([], [], refl, refl, refl)))) l.fails p
 
-pub tail_explains : (a b : Place) (f : Option (At Commitish) × (List (At Commitish) × List (At Change)) → Item) (fail : ReadFail) → Within IsItem a b after_data f → TailFails b fail → (p : Bool) → Explains a p fail
+pub tail_explains : (a b : ReaderState) (f : Option (At Commitish) × (List (At Commitish) × List (At Change)) → Item) (fail : ReadFail) → Within IsItem a b after_data f → TailFails b fail → (p : Bool) → Explains a p fail
 tail_explains a b f fail w (inl s) p = outside_explains a fail s p
 tail_explains a b f fail w (inr l) p =
     let w1 = parent_read a b l.first true l.parent f w (inl refl) l.reads_parent in
@@ -187,22 +187,22 @@ tail_explains a b f fail w (inr l) p =
 abbrev pub tail_item : List ℕ → Option ℕ → Option (List ℕ) → List ℕ → Option (List ℕ) → List ℕ → Option (At Commitish) × (List (At Commitish) × List (At Change)) → Item
 tail_item name m author committer encoding message v = commit_item name (m, (author, (committer, (encoding, (message, v)))))
 
-pub marked : (a b c : Place) (at : ℕ) (name : List ℕ) (m : Option ℕ) → Took a b (line_at at (codes "commit " ++ name) ∷ []) → NamesRef name name → OptionalPart mark b c m → Within IsItem a c (optional oid ▸ optional author ▹ from_committer) (λ y. commit_item name (m, y))
+pub marked : (a b c : ReaderState) (at : ℕ) (name : List ℕ) (m : Option ℕ) → Took a b (line_at at (codes "commit " ++ name) ∷ []) → NamesRef name name → OptionalPart mark b c m → Within IsItem a c (optional oid ▸ optional author ▹ from_committer) (λ y. commit_item name (m, y))
 marked a b c at name m t n p = step_optional IsItem a b c mark (optional oid ▸ optional author ▹ from_committer) (commit_item name) m mark_solid commit_mark (commit_begun a b at name t n) p
 
-pub named : (a b c : Place) (name : List ℕ) (m : Option ℕ) (f : Bool) → Within IsItem a b (optional oid ▸ optional author ▹ from_committer) (λ y. commit_item name (m, y)) → FoundPart oid b c f → Within IsItem a c (optional author ▹ from_committer) (λ y. commit_item name (m, y))
+pub named : (a b c : ReaderState) (name : List ℕ) (m : Option ℕ) (f : Bool) → Within IsItem a b (optional oid ▸ optional author ▹ from_committer) (λ y. commit_item name (m, y)) → FoundPart oid b c f → Within IsItem a c (optional author ▹ from_committer) (λ y. commit_item name (m, y))
 named a b c name m f w p = step_optional IsItem a b c oid (optional author ▹ from_committer) (λ v. commit_item name (m, v.1)) (found f) oid_solid commit_oid (step_skip IsItem a b (optional oid) (optional author ▹ from_committer) (λ y. commit_item name (m, y)) w) (found_part b c f p)
 
-pub authored : (a b c : Place) (name : List ℕ) (m : Option ℕ) (x : Option (List ℕ)) → Within IsItem a b (optional author ▹ from_committer) (λ y. commit_item name (m, y)) → OptionalPart author b c x → Within IsItem a c from_committer (λ y. commit_item name (m, (x, y)))
+pub authored : (a b c : ReaderState) (name : List ℕ) (m : Option ℕ) (x : Option (List ℕ)) → Within IsItem a b (optional author ▹ from_committer) (λ y. commit_item name (m, y)) → OptionalPart author b c x → Within IsItem a c from_committer (λ y. commit_item name (m, (x, y)))
 authored a b c name m x w p = step_optional IsItem a b c author from_committer (λ v. commit_item name (m, v)) x author_solid commit_author w p
 
-pub committed : (a b c : Place) (name : List ℕ) (m : Option ℕ) (x : Option (List ℕ)) (k : List ℕ) → Within IsItem a b from_committer (λ y. commit_item name (m, (x, y))) → Part committer b c k → Within IsItem a c (optional encoding ▹ from_data) (λ y. commit_item name (m, (x, (k, y))))
+pub committed : (a b c : ReaderState) (name : List ℕ) (m : Option ℕ) (x : Option (List ℕ)) (k : List ℕ) → Within IsItem a b from_committer (λ y. commit_item name (m, (x, y))) → Part committer b c k → Within IsItem a c (optional encoding ▹ from_data) (λ y. commit_item name (m, (x, (k, y))))
 committed a b c name m x k w p = step_then IsItem a b c committer (optional encoding ▹ from_data) (λ v. commit_item name (m, (x, v))) k committer_solid w p
 
-pub encoded : (a b c : Place) (name : List ℕ) (m : Option ℕ) (x : Option (List ℕ)) (k : List ℕ) (n : Option (List ℕ)) → Within IsItem a b (optional encoding ▹ from_data) (λ y. commit_item name (m, (x, (k, y)))) → OptionalPart encoding b c n → Within IsItem a c from_data (λ y. commit_item name (m, (x, (k, (n, y)))))
+pub encoded : (a b c : ReaderState) (name : List ℕ) (m : Option ℕ) (x : Option (List ℕ)) (k : List ℕ) (n : Option (List ℕ)) → Within IsItem a b (optional encoding ▹ from_data) (λ y. commit_item name (m, (x, (k, y)))) → OptionalPart encoding b c n → Within IsItem a c from_data (λ y. commit_item name (m, (x, (k, (n, y)))))
 encoded a b c name m x k n w p = step_optional IsItem a b c encoding from_data (λ v. commit_item name (m, (x, (k, v)))) n encoding_solid commit_encoding w p
 
-pub at_tail : (a b c : Place) (name : List ℕ) (m : Option ℕ) (x : Option (List ℕ)) (k : List ℕ) (n : Option (List ℕ)) (g : List ℕ) → Within IsItem a b from_data (λ y. commit_item name (m, (x, (k, (n, y))))) → Part contents b c g → Within IsItem a c after_data (tail_item name m x k n g)
+pub at_tail : (a b c : ReaderState) (name : List ℕ) (m : Option ℕ) (x : Option (List ℕ)) (k : List ℕ) (n : Option (List ℕ)) (g : List ℕ) → Within IsItem a b from_data (λ y. commit_item name (m, (x, (k, (n, y))))) → Part contents b c g → Within IsItem a c after_data (tail_item name m x k n g)
 at_tail a b c name m x k n g w p = step_then IsItem a b c contents after_data (λ v. commit_item name (m, (x, (k, (n, v))))) g contents_solid w p
 
 wants_author : Wants (optional author ▹ from_committer)
@@ -211,25 +211,25 @@ wants_author = wants_optional author from_committer wants_committer
 wants_oid : Wants (optional oid ▸ optional author ▹ from_committer)
 wants_oid = wants_skip oid (optional author ▹ from_committer) wants_author
 
-pub mark_fails : (a b : Place) (at : ℕ) (name : List ℕ) (fail : ReadFail) → Took a b (line_at at (codes "commit " ++ name) ∷ []) → NamesRef name name → Stops b fail → (p : Bool) → Explains a p fail
+pub mark_fails : (a b : ReaderState) (at : ℕ) (name : List ℕ) (fail : ReadFail) → Took a b (line_at at (codes "commit " ++ name) ∷ []) → NamesRef name name → Stops b fail → (p : Bool) → Explains a p fail
 mark_fails a b at name fail t n s p = stops_explain a b commit_after (commit_item name) fail (commit_begun a b at name t n) (wants_optional mark (optional oid ▸ optional author ▹ from_committer) wants_oid) s p
 
-pub oid_fails : (a b : Place) (name : List ℕ) (m : Option ℕ) (fail : ReadFail) → Within IsItem a b (optional oid ▸ optional author ▹ from_committer) (λ y. commit_item name (m, y)) → Stops b fail → (p : Bool) → Explains a p fail
+pub oid_fails : (a b : ReaderState) (name : List ℕ) (m : Option ℕ) (fail : ReadFail) → Within IsItem a b (optional oid ▸ optional author ▹ from_committer) (λ y. commit_item name (m, y)) → Stops b fail → (p : Bool) → Explains a p fail
 oid_fails a b name m fail w s p = stops_explain a b (optional oid ▸ optional author ▹ from_committer) (λ y. commit_item name (m, y)) fail w wants_oid s p
 
-pub author_fails : (a b : Place) (name : List ℕ) (m : Option ℕ) (fail : ReadFail) → Within IsItem a b (optional author ▹ from_committer) (λ y. commit_item name (m, y)) → Stops b fail → (p : Bool) → Explains a p fail
+pub author_fails : (a b : ReaderState) (name : List ℕ) (m : Option ℕ) (fail : ReadFail) → Within IsItem a b (optional author ▹ from_committer) (λ y. commit_item name (m, y)) → Stops b fail → (p : Bool) → Explains a p fail
 author_fails a b name m fail w s p = stops_explain a b (optional author ▹ from_committer) (λ y. commit_item name (m, y)) fail w wants_author s p
 
-pub encoding_fails : (a b : Place) (name : List ℕ) (m : Option ℕ) (x : Option (List ℕ)) (k : List ℕ) (fail : ReadFail) → Within IsItem a b (optional encoding ▹ from_data) (λ y. commit_item name (m, (x, (k, y)))) → Stops b fail → (p : Bool) → Explains a p fail
+pub encoding_fails : (a b : ReaderState) (name : List ℕ) (m : Option ℕ) (x : Option (List ℕ)) (k : List ℕ) (fail : ReadFail) → Within IsItem a b (optional encoding ▹ from_data) (λ y. commit_item name (m, (x, (k, y)))) → Stops b fail → (p : Bool) → Explains a p fail
 encoding_fails a b name m x k fail w s p = stops_explain a b (optional encoding ▹ from_data) (λ y. commit_item name (m, (x, (k, y)))) fail w (wants_optional encoding from_data wants_data) s p
 
-pub committer_fails : (a b : Place) (name : List ℕ) (m : Option ℕ) (x : Option (List ℕ)) (fail : ReadFail) → Within IsItem a b from_committer (λ y. commit_item name (m, (x, y))) → PartFails committer b fail → (p : Bool) → Explains a p fail
+pub committer_fails : (a b : ReaderState) (name : List ℕ) (m : Option ℕ) (x : Option (List ℕ)) (fail : ReadFail) → Within IsItem a b from_committer (λ y. commit_item name (m, (x, y))) → PartFails committer b fail → (p : Bool) → Explains a p fail
 committer_fails a b name m x fail w d = part_explains a b from_committer committer (λ y. commit_item name (m, (x, y))) fail w wants_committer (refuses_then committer (optional encoding ▹ from_data) committer_solid) d
 
-pub message_fails : (a b : Place) (name : List ℕ) (m : Option ℕ) (x : Option (List ℕ)) (k : List ℕ) (n : Option (List ℕ)) (fail : ReadFail) → Within IsItem a b from_data (λ y. commit_item name (m, (x, (k, (n, y))))) → DataFails b fail → (p : Bool) → Explains a p fail
+pub message_fails : (a b : ReaderState) (name : List ℕ) (m : Option ℕ) (x : Option (List ℕ)) (k : List ℕ) (n : Option (List ℕ)) (fail : ReadFail) → Within IsItem a b from_data (λ y. commit_item name (m, (x, (k, (n, y))))) → DataFails b fail → (p : Bool) → Explains a p fail
 message_fails a b name m x k n fail w d =
     data_explains a b from_data (λ y. commit_item name (m, (x, (k, (n, y))))) fail w wants_data (refuses_then contents after_data contents_solid) (λ q bytes next h. ((bytes, (None, ([], []))), (q ∷ [], [], refl, (q, next, refl, h), ([], [], refl, refl, ([], [], refl, refl, refl))))) d
 
-pub commit_whole : (a b c : Place) (name : List ℕ) (m : Option ℕ) (x : Option (List ℕ)) (k : List ℕ) (n : Option (List ℕ)) (g : List ℕ) (s : Start) (ms : List (At Commitish)) (cs : List (At Change)) → Within IsItem a b after_data (tail_item name m x k n g) → ReadsStart b c s ms cs → Reads IsCommand a c (Commit name m x k n g s ms cs)
+pub commit_whole : (a b c : ReaderState) (name : List ℕ) (m : Option ℕ) (x : Option (List ℕ)) (k : List ℕ) (n : Option (List ℕ)) (g : List ℕ) (s : Start) (ms : List (At Commitish)) (cs : List (At Change)) → Within IsItem a b after_data (tail_item name m x k n g) → ReadsStart b c s ms cs → Reads IsCommand a c (Commit name m x k n g s ms cs)
 commit_whole a b c name m x k n g s ms cs w r =
     commit_reads a b c r.0 ms cs (tail_item name m x k n g) (Commit name m x k n g s ms cs) (ap (λ (z : Start). Says (Commit name m x k n g z ms cs)) (sym r.1)) w r.2

@@ -15,7 +15,7 @@ use Rattle.swh_fastrows.specs.declared.fail.Outside.TheVariants.{Failed, Memory}
 use Rattle.swh_fastrows.specs.Outside.{fail_of}
 use Rattle.swh_fastrows.specs.Explains.{IsClear, EndsWhole}
 use Rattle.swh_fastrows.specs.Held.{IsNext}
-use Rattle.swh_fastrows.specs.Places.{Place, Took, Part, NeverLine, position}
+use Rattle.swh_fastrows.specs.Places.{ReaderState, Took, Part, NeverLine, position}
 use Rattle.swh_fastread.specs.Tail.{IsOutside, IsSure, Stopped, FindsChange, ReadsSome, ReadsAll}
 use Rattle.swh_fastrows.proofs.HeldLines.{taken, held_first, held_counts, line_taken}
 use Rattle.swh_fastrows.proofs.Joins.{took_none, took_append, took_before}
@@ -46,11 +46,11 @@ brings_none (Move source path) e = refl
 brings_none Clear e = refl
 
 -- the held line of a change was taken
-pub change_taken : (a : Place) (line : List ℕ) (c : Change) → IsNext a → a.held ≡ line ++ 10 ∷ [] → LineSays line c → Took a (taken a) (line_at a.at line ∷ [])
+pub change_taken : (a : ReaderState) (line : List ℕ) (c : Change) → IsNext a → a.held ≡ line ++ 10 ∷ [] → LineSays line c → Took a (taken a) (line_at a.at line ∷ [])
 change_taken a line c n e h = line_taken a a line (took_none a) e n (λ o. change_closed c h.0 h.2 (subst Opens h.1 o))
 
 -- a change that is whole with its line
-pub whole_change : (a : Place) (line : List ℕ) (c : Change) (v : At Change) → IsNext a → a.held ≡ line ++ 10 ∷ [] → LineSays line c → is_inline c ≡ false → v.at ≡ a.at → v.it ≡ c → Part change a (taken a) v
+pub whole_change : (a : ReaderState) (line : List ℕ) (c : Change) (v : At Change) → IsNext a → a.held ≡ line ++ 10 ∷ [] → LineSays line c → is_inline c ≡ false → v.at ≡ a.at → v.it ≡ c → Part change a (taken a) v
 whole_change a line c v n e h i here it =
     let h1 : LineSays line v.it = subst (LineSays line) (sym it) h in
     let i1 : is_inline v.it ≡ false = subst (λ (x : Change). is_inline x ≡ false) (sym it) i in
@@ -61,7 +61,7 @@ whole_change a line c v n e h i here it =
     }
 
 -- a change with the data after its line
-pub inline_change : (a b : Place) (line : List ℕ) (mode : ℕ) (path bytes : List ℕ) (v : At Change) → IsNext a → a.held ≡ line ++ 10 ∷ [] → LineSays line (Set mode (Inline bytes) path) → v.at ≡ a.at → v.it ≡ Set mode (Inline bytes) path → Part contents (taken a) b bytes → Part change a b v
+pub inline_change : (a b : ReaderState) (line : List ℕ) (mode : ℕ) (path bytes : List ℕ) (v : At Change) → IsNext a → a.held ≡ line ++ 10 ∷ [] → LineSays line (Set mode (Inline bytes) path) → v.at ≡ a.at → v.it ≡ Set mode (Inline bytes) path → Part contents (taken a) b bytes → Part change a b v
 inline_change a b line mode path bytes v n e h here it p =
     let c : Change = Set mode (Inline bytes) path in
     let row : (line_at a.at line ∷ p.rows) ≡ line_at v.at (change_word c ++ h.0) ∷ p.rows = ap (λ (t : List ℕ). line_at a.at t ∷ p.rows) h.1 ∙ ap (λ (k : ℕ). line_at k (change_word c ++ h.0) ∷ p.rows) (sym here) in
@@ -75,23 +75,23 @@ inline_change a b line mode path bytes v n e h here it p =
     }
 
 -- a line that is no change
-pub stopped_change : (a : Place) (line : List ℕ) → IsNext a → a.held ≡ line ++ 10 ∷ [] → ((c : Change) → LineSays line c → ⊥) → Stopped change a
+pub stopped_change : (a : ReaderState) (line : List ℕ) → IsNext a → a.held ≡ line ++ 10 ∷ [] → ((c : Change) → LineSays line c → ⊥) → Stopped change a
 stopped_change a line n e none = record {
   refused = λ p more x f h. none x.it (h.0, same_next a line n e p.row.line f ∙ ap (λ (q : Placed). q.row.line) (cons_cut p (line_at x.at (change_word x.it ++ h.0)) more h.1 h.2).0, h.3);
   counts = held_counts a line e n.line n.counts;
 }
 
 -- a line that passes a limit
-pub clear_path : (a : Place) (line : List ℕ) (number : ℕ) → IsNext a → a.held ≡ line ++ 10 ∷ [] → PassesPaths line number → IsClear (position a false) → ⊥
+pub clear_path : (a : ReaderState) (line : List ℕ) (number : ℕ) → IsNext a → a.held ≡ line ++ 10 ∷ [] → PassesPaths line number → IsClear (position a false) → ⊥
 clear_path a line number n e p clear = clear Path number (record { line = line; first = held_first a line e n.line; counts = n.counts line e; passes = p })
 
 -- what is held is no line of the part, where it is known what comes next
-pub stopped_end : {X : Type 0} (L : List Placed → X → Type 0) (a : Place) → EndsWhole a → IsSure a false → Stopped L a
+pub stopped_end : {X : Type 0} (L : List Placed → X → Type 0) (a : ReaderState) → EndsWhole a → IsSure a false → Stopped L a
 stopped_end L a e (inl n) = absurd cc
 stopped_end L a e (inr clear) = let l = clear_lacks L a a (took_none a) e clear in record { refused = l.refused; counts = l.counts }
 
 -- one more was read
-pub some_more : {X : Type 0} (L : List Placed → X → Type 0) (a b c d : Place) (xs : List X) (x : X) → ReadsSome L a b xs → Part L b c x → Took c d [] → ReadsSome L a d (xs ++ x ∷ [])
+pub some_more : {X : Type 0} (L : List Placed → X → Type 0) (a b c d : ReaderState) (xs : List X) (x : X) → ReadsSome L a b xs → Part L b c x → Took c d [] → ReadsSome L a d (xs ++ x ∷ [])
 some_more L a b c d xs x s p t = record {
   rows = s.rows ++ (p.rows ++ []);
   took = took_append a b d s.rows (p.rows ++ []) s.took (took_append b c d p.rows [] p.took t);
@@ -99,30 +99,30 @@ some_more L a b c d xs x s p t = record {
 }
 
 -- comments after a part
-pub part_after : {X : Type 0} (L : List Placed → X → Type 0) (a b c : Place) (x : X) → Part L a b x → Took b c [] → Part L a c x
+pub part_after : {X : Type 0} (L : List Placed → X → Type 0) (a b c : ReaderState) (x : X) → Part L a b x → Took b c [] → Part L a c x
 part_after L a b c x p t = record { rows = p.rows; took = took_before a b c p.rows p.took t; says = p.says }
 
 -- a line of another word, or one that says nothing
-pub stopped_placed : {X : Type 0} (word : List ℕ) (Tells : List ℕ → X → Type 0) (a : Place) (line : List ℕ) → IsNext a → a.held ≡ line ++ 10 ∷ [] → NeverLine word Tells line → Stopped (placed_line word Tells) a
+pub stopped_placed : {X : Type 0} (word : List ℕ) (Tells : List ℕ → X → Type 0) (a : ReaderState) (line : List ℕ) → IsNext a → a.held ≡ line ++ 10 ∷ [] → NeverLine word Tells line → Stopped (placed_line word Tells) a
 stopped_placed word Tells a line n e never = let l = lacks_placed word Tells a a line (took_none a) n e never in record { refused = l.refused; counts = l.counts }
 
 -- no change comes next
-pub changes_stop : (a b c : Place) (xs ys : List (At Change)) → ReadsSome change a b xs → FindsChange b c None → ys ≡ xs → ReadsAll change a c false ys
+pub changes_stop : (a b c : ReaderState) (xs ys : List (At Change)) → ReadsSome change a b xs → FindsChange b c None → ys ≡ xs → ReadsAll change a c false ys
 changes_stop a b c xs ys s f e = record {
-  some = subst (λ (p : Place). ReadsSome change a p ys) (sym f.0) (subst (ReadsSome change a b) (sym e) s);
+  some = subst (λ (p : ReaderState). ReadsSome change a p ys) (sym f.0) (subst (ReadsSome change a b) (sym e) s);
   stopped = stopped;
 }
   where
     stopped : IsSure c false → Stopped change c
     stopped (inl n) = absurd cc
-    stopped (inr clear) = subst (Stopped change) (sym f.0) (f.1 (subst (λ (p : Place). IsClear (position p false)) f.0 clear))
+    stopped (inr clear) = subst (Stopped change) (sym f.0) (f.1 (subst (λ (p : ReaderState). IsClear (position p false)) f.0 clear))
 
 -- nothing comes next within the limits
-pub all_end : {X : Type 0} (L : List Placed → X → Type 0) (a b : Place) (xs ys : List X) → ReadsSome L a b xs → EndsWhole b → ys ≡ xs → ReadsAll L a b false ys
+pub all_end : {X : Type 0} (L : List Placed → X → Type 0) (a b : ReaderState) (xs ys : List X) → ReadsSome L a b xs → EndsWhole b → ys ≡ xs → ReadsAll L a b false ys
 all_end L a b xs ys s e same = record { some = subst (ReadsSome L a b) (sym same) s; stopped = stopped_end L b e }
 
 -- another line comes next
-pub all_line : {X : Type 0} (L : List Placed → X → Type 0) (a b : Place) (xs ys : List X) → ReadsSome L a b xs → Stopped L b → ys ≡ xs → ReadsAll L a b true ys
+pub all_line : {X : Type 0} (L : List Placed → X → Type 0) (a b : ReaderState) (xs ys : List X) → ReadsSome L a b xs → Stopped L b → ys ≡ xs → ReadsAll L a b true ys
 all_line L a b xs ys s n same = record { some = subst (ReadsSome L a b) (sym same) s; stopped = λ sure. n }
 
 -- what fails outside is no fault of the stream

@@ -22,7 +22,7 @@ use Rattle.swh_fastread.specs.declared.items.Step.TheVariants.{Command, Promise,
 use Rattle.swh_fastrows.specs.Explains.{Explains, Reads, Stops, line_refusal}
 use Rattle.swh_fastrows.specs.Held.{IsNext, EndsNext}
 use Rattle.swh_fastrows.specs.Outcome.{IsLineFaultWithin, IsEndFaultWithin, IsFaultWithin, PassesFirst, Ended, Starts}
-use Rattle.swh_fastrows.specs.Places.{Place, left, Took, position}
+use Rattle.swh_fastrows.specs.Places.{ReaderState, left, Took, position}
 use Rattle.swh_fastread.specs.Steps.{IsStreamBefore, Whole, Passed, FindsCommand, EndsHere, FindsStep}
 use Rattle.swh_fastrows.specs.Within.{LineFits, Fits}
 use Rattle.swh_fastread.proofs.Broken.{Unfinished, line_within, end_within, limit_first, no_row}
@@ -34,23 +34,23 @@ use Rattle.swh_fastrows.proofs.NextLines.{closed_word, end_feeds}
 use Rattle.swh_fastread.proofs.Outcomes.{before_carries, fault_carries, limit_carries, carries_with, starts_join}
 
 -- a failure after what was passed
-pub explains_passed : (a b : Place) (p q : Bool) (fail : ReadFail) → Passed a b p q → Explains b q fail → Explains a p fail
+pub explains_passed : (a b : ReaderState) (p q : Bool) (fail : ReadFail) → Passed a b p q → Explains b q fail → Explains a p fail
 explains_passed a b p q (BadStream at why) f e = carries_with (λ n cs. IsFaultWithin n.at n.promised n.left cs at why) (fault_carries at why) (position a p) (position b q) [] [] f e
 explains_passed a b p q ReadFault f e = tt
 explains_passed a b p q (Limit which number) f e = carries_with (λ n cs. PassesFirst n.at n.promised n.left cs which number) (limit_carries which number) (position a p) (position b q) [] [] f e
 explains_passed a b p q Memory f e = tt
 
-pub command_passed : (a b c : Place) (p q : Bool) (command : Said) → Passed a b p q → Reads IsCommand b c command → FindsCommand a c p q command
+pub command_passed : (a b c : ReaderState) (p q : Bool) (command : Said) → Passed a b p q → Reads IsCommand b c command → FindsCommand a c p q command
 command_passed a b c p q command f r = record { first = b; passed = f; reads = r }
 
-pub ends_passed : (a b c : Place) (p q : Bool) → Passed a b p q → EndsHere b c q → EndsHere a c p
+pub ends_passed : (a b c : ReaderState) (p q : Bool) → Passed a b p q → EndsHere b c q → EndsHere a c p
 ends_passed a b c p q f e = record {
   stream = carries_with (λ n cs. IsStreamBefore n.at n.promised n.left cs (left c)) (before_carries (left c)) (position a p) (position b q) [] [] f e.stream;
   held = e.held;
 }
 
 -- An item that was read starts the text.
-item_starts : (a b : Place) (i : Item) → Whole a b i → (p q : Bool) → q ≡ p || is_promise i → Starts (position a p) (position b q) i
+item_starts : (a b : ReaderState) (i : Item) → Whole a b i → (p q : Bool) → q ≡ p || is_promise i → Starts (position a p) (position b q) i
 item_starts a b i w p q e = record {
   rows = w.took.rows;
   spelled = w.took.spelled;
@@ -63,39 +63,39 @@ item_starts a b i w p q e = record {
 }
 
 -- One item more was passed.
-passed_item : (a b c : Place) (i : Item) (p q r : Bool) → [] ≡ commands_of (i ∷ []) → r ≡ q || is_promise i → Passed a b p q → Whole b c i → Passed a c p r
+passed_item : (a b c : ReaderState) (i : Item) (p q r : Bool) → [] ≡ commands_of (i ∷ []) → r ≡ q || is_promise i → Passed a b p q → Whole b c i → Passed a c p r
 passed_item a b c i p q r none e f w = starts_join (position a p) (position b q) (position c r) [] [] f (record { items = i ∷ []; starts = (position c r, item_starts b c i w q r e, refl); these = none })
 
-pub passed_promise : (a b c : Place) (p q : Bool) → Passed a b p q → Whole b c Promises → Passed a c p true
+pub passed_promise : (a b c : ReaderState) (p q : Bool) → Passed a b p q → Whole b c Promises → Passed a c p true
 passed_promise a b c p q f w = passed_item a b c Promises p q true refl (sym (or-true q)) f w
 
-pub passed_silent : (a b c : Place) (p q : Bool) → Passed a b p q → Whole b c Silent → Passed a c p q
+pub passed_silent : (a b c : ReaderState) (p q : Bool) → Passed a b p q → Whole b c Silent → Passed a c p q
 passed_silent a b c p q f w = passed_item a b c Silent p q q refl (sym (or-false q)) f w
 
-whole_after : (a b c : Place) (i : Item) → Took a b [] → Whole b c i → Whole a c i
+whole_after : (a b c : ReaderState) (i : Item) → Took a b [] → Whole b c i → Whole a c i
 whole_after a b c i t w = record { part = w.part; took = took_after a b c w.part t w.took; is_item = w.is_item; ended = w.ended }
 
 -- what stands behind comments
-step_passed : (a b c : Place) (p : Bool) (step : Step) → Took a b [] → FindsStep b c p step → FindsStep a c p step
+step_passed : (a b c : ReaderState) (p : Bool) (step : Step) → Took a b [] → FindsStep b c p step → FindsStep a c p step
 step_passed a b c p (Command command) t r = record { rows = r.rows; took = took_after a b c r.rows t r.took; says = r.says; closed = r.closed }
 step_passed a b c p Promise t f = whole_after a b c Promises t f
 step_passed a b c p Nothing t f = whole_after a b c Silent t f
 step_passed a b c p End t f = record { stream = comments_end a b p (left c) t f.stream; held = f.held }
 
-pub ok_passed : (a b c : Place) (p : Bool) (r : Result Step ReadFail) → Took a b [] → IfOk r (FindsStep b c p) → IfOk r (FindsStep a c p)
+pub ok_passed : (a b c : ReaderState) (p : Bool) (r : Result Step ReadFail) → Took a b [] → IfOk r (FindsStep b c p) → IfOk r (FindsStep a c p)
 ok_passed a b c p (Ok step) t f = step_passed a b c p step t f
 ok_passed a b c p (Err fail) t f = tt
 
-pub err_passed : (a b : Place) (p : Bool) (r : Result Step ReadFail) → Took a b [] → IfErr r (Explains b p) → IfErr r (Explains a p)
+pub err_passed : (a b : ReaderState) (p : Bool) (r : Result Step ReadFail) → Took a b [] → IfErr r (Explains b p) → IfErr r (Explains a p)
 err_passed a b p (Ok step) t f = tt
 err_passed a b p (Err fail) t f = comments_explain a b p fail t f
 
 -- what is known for each `promised`
-pub ok_each : (a c : Place) (p : Bool) (r : Result Step ReadFail) → IfOk r (λ step. (q : Bool) → FindsStep a c q step) → IfOk r (FindsStep a c p)
+pub ok_each : (a c : ReaderState) (p : Bool) (r : Result Step ReadFail) → IfOk r (λ step. (q : Bool) → FindsStep a c q step) → IfOk r (FindsStep a c p)
 ok_each a c p (Ok step) f = f p
 ok_each a c p (Err fail) f = tt
 
-pub err_each : (a : Place) (p : Bool) (r : Result Step ReadFail) → IfErr r (λ fail. (q : Bool) → Explains a q fail) → IfErr r (Explains a p)
+pub err_each : (a : ReaderState) (p : Bool) (r : Result Step ReadFail) → IfErr r (λ fail. (q : Bool) → Explains a q fail) → IfErr r (Explains a p)
 err_each a p (Ok step) f = tt
 err_each a p (Err fail) f = f p
 
@@ -114,14 +114,14 @@ silent_ended first i five h text q more Silent may (inr (inl k)) = one_row q (li
 silent_ended first i five h text q more Silent may (inr (inr k)) = one_row q (line_at k.0 (codes "progress " ++ k.1)) first more k.2
 
 -- the held line was passed
-pub promise_taken : (a : Place) (line : List ℕ) → IsNext a → a.held ≡ line ++ 10 ∷ [] → line ≡ codes "feature done" → Whole a (taken a) Promises
+pub promise_taken : (a : ReaderState) (line : List ℕ) → IsNext a → a.held ≡ line ++ 10 ∷ [] → line ≡ codes "feature done" → Whole a (taken a) Promises
 promise_taken a line n e same =
     let row : List Placed = line_at a.at line ∷ [] in
     let t : Took a (taken a) row = line_taken a a line (took_none a) e n (λ o. closed_word (codes "feature done") [] refl (subst Opens same o)) in
     let item : IsItem row Promises = (a.at, [], ap (λ (x : List ℕ). line_at a.at x ∷ []) same, refl) in
     record { part = row; took = t; is_item = item; ended = silent_ended (line_at a.at line) Promises (omega arith) item (left (taken a)) }
 
-silent_item : (a : Place) (line : List ℕ) → SaysNothing line → IsItem (line_at a.at line ∷ []) Silent
+silent_item : (a : ReaderState) (line : List ℕ) → SaysNothing line → IsItem (line_at a.at line ∷ []) Silent
 silent_item a line (inl e) = inl (a.at, line, refl, e)
 silent_item a line (inr (inl e)) = inr (inl (a.at, [], ap (λ (x : List ℕ). line_at a.at x ∷ []) e, refl))
 silent_item a line (inr (inr e)) = inr (inr (a.at, e.0, ap (λ (x : List ℕ). line_at a.at x ∷ []) e.1, tt))
@@ -132,7 +132,7 @@ silent_closed line (inl e) (raw, bytes, next, inr d) = let n : [] ≡ codes "dat
 silent_closed line (inr (inl e)) o = closed_word (codes "checkpoint") [] refl (subst Opens e o)
 silent_closed line (inr (inr e)) o = closed_word (codes "progress ") e.0 refl (subst Opens e.1 o)
 
-pub silent_taken : (a : Place) (line : List ℕ) → IsNext a → a.held ≡ line ++ 10 ∷ [] → SaysNothing line → Whole a (taken a) Silent
+pub silent_taken : (a : ReaderState) (line : List ℕ) → IsNext a → a.held ≡ line ++ 10 ∷ [] → SaysNothing line → Whole a (taken a) Silent
 silent_taken a line n e says =
     let row : List Placed = line_at a.at line ∷ [] in
     let t : Took a (taken a) row = line_taken a a line (took_none a) e n (silent_closed line says) in
@@ -140,7 +140,7 @@ silent_taken a line n e says =
     record { part = row; took = t; is_item = item; ended = silent_ended (line_at a.at line) Silent (omega arith) item (left (taken a)) }
 
 -- the line that ends the stream
-pub done_ends : (a : Place) (line : List ℕ) → IsNext a → a.held ≡ line ++ 10 ∷ [] → line ≡ codes "done" → (p : Bool) → EndsHere a a p
+pub done_ends : (a : ReaderState) (line : List ℕ) → IsNext a → a.held ≡ line ++ 10 ∷ [] → line ≡ codes "done" → (p : Bool) → EndsHere a a p
 done_ends a line n e same p =
     let stream : IsStream a.at p (left a) [] = record {
       rows = [];
@@ -159,7 +159,7 @@ empty [] h = refl
 empty (c ∷ x) h = absurd (omega (arith, h))
 
 -- the end of the input where nothing is held
-pub input_ends : (a : Place) → EndsNext a → left a ≡ [] → EndsHere a a false
+pub input_ends : (a : ReaderState) → EndsNext a → left a ≡ [] → EndsHere a a false
 input_ends a n e =
     let stream : IsStream a.at false (left a) [] = record { rows = []; ending = left a; spelled = refl; whole = record { items = []; good = tt; said = refl; ends = inl (e, refl); these = refl } } in
     let same_at : a.at ≡ a.at + length (text_of []) = omega arith in
@@ -181,18 +181,18 @@ none_unfinished = record {
   none = λ i h. some_item [] [] i h refl;
 }
 
-pub ref_passes : (a : Place) (line : List ℕ) (number : ℕ) → IsNext a → a.held ≡ line ++ 10 ∷ [] → PassesRefs line number → (p : Bool) → PassesFirst a.at p (left a) [] Ref number
+pub ref_passes : (a : ReaderState) (line : List ℕ) (number : ℕ) → IsNext a → a.held ≡ line ++ 10 ∷ [] → PassesRefs line number → (p : Bool) → PassesFirst a.at p (left a) [] Ref number
 ref_passes a line number n e r p = limit_first a a p [] Ref number (took_none a) none_unfinished (inl (record { line = line; first = held_first a line e n.line; counts = n.counts line e; passes = r }))
 
 -- what stops the reading at a command's place
-pub stops_here : (a : Place) (p : Bool) (fail : ReadFail) → Stops a fail → Explains a p fail
+pub stops_here : (a : ReaderState) (p : Bool) (fail : ReadFail) → Stops a fail → Explains a p fail
 stops_here a p (BadStream at why) s = absurd s
 stops_here a p ReadFault s = tt
 stops_here a p (Limit which number) s = limit_first a s.before p [] which number s.took none_unfinished (inl s.passes)
 stops_here a p Memory s = tt
 
 -- a line with which no item begins
-pub line_explains : (a : Place) (line : List ℕ) (at : ℕ) (fail : ReadFail) → IsNext a → a.held ≡ line ++ 10 ∷ [] → BeginsNone line → (line ≡ codes "done" → ⊥) → at ≡ a.at → fail ≡ line_refusal line at → (p : Bool) → Explains a p fail
+pub line_explains : (a : ReaderState) (line : List ℕ) (at : ℕ) (fail : ReadFail) → IsNext a → a.held ≡ line ++ 10 ∷ [] → BeginsNone line → (line ≡ codes "done" → ⊥) → at ≡ a.at → fail ≡ line_refusal line at → (p : Bool) → Explains a p fail
 line_explains a line at fail n e none no_end here same p = subst (Explains a p) (sym (same ∙ ap (line_refusal line) here)) (by_out (is_left_out line) refl)
   where
     refused : (o : Bool) → is_left_out line ≡ o → IsLineFaultWithin a.at p (left a) [] a.at o
@@ -202,11 +202,11 @@ line_explains a line at fail n e none no_end here same p = subst (Explains a p) 
     by_out true o = refused true o
     by_out false o = refused false o
 
-pub held_left : (a : Place) → EndsNext a → left a ≡ a.held
+pub held_left : (a : ReaderState) → EndsNext a → left a ≡ a.held
 held_left a e = ap (λ (r : List ℕ). a.held ++ r) e.nothing ∙ append_nil a.held
 
 -- the input ends where the stream does not
-pub end_explains : (a : Place) (p : Bool) (at : ℕ) → EndsNext a → at ≡ a.at + length a.held → (left a ≡ [] → p ≡ true) → IsEndFaultWithin a.at p (left a) [] at
+pub end_explains : (a : ReaderState) (p : Bool) (at : ℕ) → EndsNext a → at ≡ a.at + length a.held → (left a ≡ [] → p ≡ true) → IsEndFaultWithin a.at p (left a) [] at
 end_explains a p at e here promised =
     let feeds : Contains (left a) 10 → ⊥ = end_feeds a e in
     let fits : Fits a.at (left a) = record { line = ending_fits a e; inside = endless_fits a.at (left a) feeds } in

@@ -4,14 +4,14 @@ use Rattle.swh_fastgrammar.specs.declared.command.Command.{Command}
 use Rattle.swh_fastgrammar.specs.Grammar.Item.{Says}
 use Rattle.swh_fastrows.specs.declared.fail.ReadFail.{ReadFail}
 use Rattle.swh_fastrows.specs.Outcome.{StartsWith}
-use Rattle.swh_fastrows.specs.Places.{Place, position}
+use Rattle.swh_fastrows.specs.Places.{ReaderState, position}
 use Rattle.swh_fastread.specs.Standing.{Standing, Answers}
 use Rattle.swh_fastread.specs.Steps.{FindsCommand, FindsNext}
 use Rattle.swh_fastread.proofs.Commands.{command_starts}
 use Rattle.swh_fastread.proofs.Outcomes.{starts_join}
 
 -- a command behind what was passed starts the text
-find_starts : (a c : Place) (p q : Bool) (command : Command) → FindsCommand a c p q command → StartsWith (position a p) (position c q) (command ∷ [])
+find_starts : (a c : ReaderState) (p q : Bool) (command : Command) → FindsCommand a c p q command → StartsWith (position a p) (position c q) (command ∷ [])
 find_starts a c p q command f =
     let one : StartsWith (position f.first q) (position c q) (command ∷ []) = record { items = Says command ∷ []; starts = (position c q, command_starts f.first c command f.reads q, refl); these = refl } in
     starts_join (position a p) (position f.first q) (position c q) [] (command ∷ []) f.passed one

@@ -6,13 +6,14 @@ use Rattle.swh_fastrows.specs.Explains.{PassesAfter, DataPassesAfter}
 use Rattle.swh_fastrows.specs.Outcome.{IsLineFaultWithin, IsEndFaultWithin, PassesFirst}
 use Rattle.swh_fastgrammar.specs.Grammar.{◌▹◌, ◌▸◌, optional, many, Item, IsItem}
 pub use Rattle.swh_fastread.specs.Steps.{Whole}
-use Rattle.swh_fastrows.specs.Places.{Place, left, Took, FirstLine, Refuses, Counts, Part, Lacks, OptionalPart, ManyParts, LineRefused, LineLacks, DataLacks, MayCount}
+use Rattle.swh_fastrows.specs.Places.{ReaderState, left, Took, FirstLine, Refuses, Counts, Part, Lacks, OptionalPart, ManyParts, LineRefused, LineLacks, DataLacks, MayCount}
 use Rattle.swh_fastgrammar.specs.Row.{Row, row_text, text_of, begins_with, IsFeed, IsData, AreRows, Placed, placed, is_comment}
 use Rattle.swh_fastgrammar.proofs.Faults.{append_nil, row_cut}
 use Rattle.swh_fastgrammar.proofs.Parts.{Single, Begins, begins, single_cut}
 use Rattle.swh_fastrows.proofs.Joins.{took_append, took_before}
 use Rattle.swh_fastread.proofs.Onward.{rows_first}
 use Rattle.swh_fastrows.proofs.Fitting.{endless_fits}
+use Rattle.swh_fastrows.proofs.HeldLines.{data_counts}
 use Rattle.swh_fastread.proofs.Broken.{Unfinished, Dead, line_within, end_within, limit_first, no_row, filled_stream, data_may_come, both_nil}
 
 -- The rows begin with the line that is next, if there are any.
@@ -26,7 +27,7 @@ pub record Remains {V X : Type 0} (R : List Placed → V → Type 0) (part : Lis
   pub back : (more : List Placed) (i : V) → Next text more → R (part ++ more) i → (x : X) × M more x
 
 -- the same where the part was read
-pub record Within {V X : Type 0} (R : List Placed → V → Type 0) (old now : Place) (M : List Placed → X → Type 0) (f : X → V) : Type 0 where
+pub record Within {V X : Type 0} (R : List Placed → V → Type 0) (old now : ReaderState) (M : List Placed → X → Type 0) (f : X → V) : Type 0 where
   pub part : List Placed
   pub some : part ≡ [] → ⊥
   pub took : Took old now part
@@ -60,12 +61,12 @@ some_append [] b n e = n refl
 some_append (p ∷ a) b n e = cc
 
 -- what was read is what was next
-pub took_next : (a b : Place) (rows : List Placed) → Took a b rows → (rows ≡ [] → ⊥) → (more : List Placed) → Next (left a) (rows ++ more)
+pub took_next : (a b : ReaderState) (rows : List Placed) → Took a b rows → (rows ≡ [] → ⊥) → (more : List Placed) → Next (left a) (rows ++ more)
 took_next a b [] t n more = absurd (n refl)
 took_next a b (p ∷ rows) t n more = subst (λ (x : List ℕ). MayCount x p.row.line) (sym t.spelled) (rows_first a.at t.rows (left b) t.good p rows t.those)
 
 -- after comments that were read
-skipped_next : (a b : Place) → Took a b [] → (line : List ℕ) → MayCount (left b) line → MayCount (left a) line
+skipped_next : (a b : ReaderState) → Took a b [] → (line : List ℕ) → MayCount (left b) line → MayCount (left a) line
 skipped_next a b t line m = by_rows t.rows t.spelled t.good t.those
   where
     by_rows : (rows : List Row) → left a ≡ text_of rows ++ left b → AreRows rows (left b) → placed a.at rows ≡ [] → MayCount (left a) line
@@ -82,7 +83,7 @@ all_next : (text other : List ℕ) → ((line : List ℕ) → MayCount other lin
 all_next text other h [] n = tt
 all_next text other h (p ∷ more) n = h p.row.line n
 
-pub skip_comments : {V X : Type 0} (R : List Placed → V → Type 0) (a b c : Place) (M : List Placed → X → Type 0) (f : X → V) → Within R a b M f → Took b c [] → Within R a c M f
+pub skip_comments : {V X : Type 0} (R : List Placed → V → Type 0) (a b c : ReaderState) (M : List Placed → X → Type 0) (f : X → V) → Within R a b M f → Took b c [] → Within R a c M f
 skip_comments R a b c M f w t = record {
   part = w.part;
   some = w.some;
@@ -91,7 +92,7 @@ skip_comments R a b c M f w t = record {
 }
 
 -- a first part was read
-pub step_then : {V X Y : Type 0} (R : List Placed → V → Type 0) (a b c : Place) (L : List Placed → X → Type 0) (N : List Placed → Y → Type 0) (f : X × Y → V) (x : X) → Solid L → Within R a b (L ▹ N) f → Part L b c x → Within R a c N (λ y. f (x, y))
+pub step_then : {V X Y : Type 0} (R : List Placed → V → Type 0) (a b c : ReaderState) (L : List Placed → X → Type 0) (N : List Placed → Y → Type 0) (f : X × Y → V) (x : X) → Solid L → Within R a b (L ▹ N) f → Part L b c x → Within R a c N (λ y. f (x, y))
 step_then {V} {X} {Y} R a b c L N f x s w p = record {
   part = w.part ++ p.rows;
   some = some_append w.part p.rows w.some;
@@ -108,13 +109,13 @@ step_then {V} {X} {Y} R a b c L N f x s w p = record {
 }
 
 -- what was lacking is not next
-pub lacks_next : {X : Type 0} (b c : Place) (L : List Placed → X → Type 0) (l : Lacks L b c) (rows more : List Placed) (x : X) → ((y : X) → L [] y → ⊥) → L rows x → Next (left c) (rows ++ more) → ⊥
+pub lacks_next : {X : Type 0} (b c : ReaderState) (L : List Placed → X → Type 0) (l : Lacks L b c) (rows more : List Placed) (x : X) → ((y : X) → L [] y → ⊥) → L rows x → Next (left c) (rows ++ more) → ⊥
 lacks_next b c L l [] more x some h n = some x h
 lacks_next b c L l (p ∷ rows) more x some h (inl f) = l.refused p rows x f h
 lacks_next b c L l (p ∷ rows) more x some h (inr f) = let t = f.2 in let u = l.counts f.0 f.1 in let d : true ≡ false = sym t ∙ u in absurd cc
 
 -- a part was read or is lacking
-pub step_optional : {V X Y : Type 0} (R : List Placed → V → Type 0) (a b c : Place) (L : List Placed → X → Type 0) (N : List Placed → Y → Type 0) (f : Option X × Y → V) (v : Option X) → Solid L → Clash L N → Within R a b (optional L ▹ N) f → OptionalPart L b c v → Within R a c N (λ y. f (v, y))
+pub step_optional : {V X Y : Type 0} (R : List Placed → V → Type 0) (a b c : ReaderState) (L : List Placed → X → Type 0) (N : List Placed → Y → Type 0) (f : Option X × Y → V) (v : Option X) → Solid L → Clash L N → Within R a b (optional L ▹ N) f → OptionalPart L b c v → Within R a c N (λ y. f (v, y))
 step_optional {V} {X} {Y} R a b c L N f None s d w p =
     let u = skip_comments R a b c (optional L ▹ N) f w p.took in
     record {
@@ -147,7 +148,7 @@ step_optional {V} {X} {Y} R a b c L N f (Some x) s d w p = record {
     found more None y h = absurd (d p.rows more x y p.says (subst (λ (t : List Placed). N t y) (sym (h.2 ∙ ap (λ (t : List Placed). t ++ h.1) h.3)) h.4))
     found more (Some z) y h = let cut = s.cuts p.rows more h.0 h.1 x z p.says h.3 h.2 in (y, subst (λ (t : List Placed). N t y) (sym cut.1) h.4)
 
-pub step_skip : {V X Y : Type 0} (R : List Placed → V → Type 0) (a b : Place) (L : List Placed → X → Type 0) (N : List Placed → Y → Type 0) (f : Y → V) → Within R a b (L ▸ N) f → Within R a b (L ▹ N) (λ v. f v.1)
+pub step_skip : {V X Y : Type 0} (R : List Placed → V → Type 0) (a b : ReaderState) (L : List Placed → X → Type 0) (N : List Placed → Y → Type 0) (f : Y → V) → Within R a b (L ▸ N) f → Within R a b (L ▹ N) (λ v. f v.1)
 step_skip {V} {X} {Y} R a b L N f w = record {
   part = w.part;
   some = w.some;
@@ -173,12 +174,12 @@ pub many_append : {X : Type 0} (L : List Placed → X → Type 0) (a b : List Pl
 many_append {X} L a b [] ys h k = subst (λ (r : List Placed). many L r ys) (ap (λ (r : List Placed). r ++ b) (sym h)) k
 many_append L a b (x ∷ xs) ys h k = (h.0, h.1 ++ b, ap (λ (r : List Placed). r ++ b) h.2 ∙ append_assoc h.0 h.1 b, h.3, many_append L h.1 b xs ys h.4 k)
 
-pub any_next : (b c : Place) (rows more : List Placed) → Took b c rows → Next (left c) more → Next (left b) (rows ++ more)
+pub any_next : (b c : ReaderState) (rows more : List Placed) → Took b c rows → Next (left c) more → Next (left b) (rows ++ more)
 any_next b c [] more t n = all_next (left b) (left c) (skipped_next b c t) more n
 any_next b c (p ∷ rows) more t n = took_next b c (p ∷ rows) t (λ e. absurd cc) more
 
 -- some more of a part that may come any number of times
-pub step_some : {V X Y : Type 0} (R : List Placed → V → Type 0) (a b c : Place) (L : List Placed → X → Type 0) (N : List Placed → Y → Type 0) (f : List X × Y → V) (rows : List Placed) (xs : List X) → Solid L → Clash L N → Within R a b (many L ▹ N) f → Took b c rows → many L rows xs → Within R a c (many L ▹ N) (λ v. f (xs ++ v.0, v.1))
+pub step_some : {V X Y : Type 0} (R : List Placed → V → Type 0) (a b c : ReaderState) (L : List Placed → X → Type 0) (N : List Placed → Y → Type 0) (f : List X × Y → V) (rows : List Placed) (xs : List X) → Solid L → Clash L N → Within R a b (many L ▹ N) f → Took b c rows → many L rows xs → Within R a c (many L ▹ N) (λ v. f (xs ++ v.0, v.1))
 step_some {V} {X} {Y} R a b c L N f rows xs s d w t h = record {
   part = w.part ++ rows;
   some = some_append w.part rows w.some;
@@ -193,7 +194,7 @@ step_some {V} {X} {Y} R a b c L N f rows xs s d w t h = record {
 }
 
 -- no more of it comes
-pub step_stop : {V X Y : Type 0} (R : List Placed → V → Type 0) (a b : Place) (L : List Placed → X → Type 0) (N : List Placed → Y → Type 0) (f : List X × Y → V) → Solid L → Within R a b (many L ▹ N) f → Refuses L (left b) → Counts (left b) → Within R a b N (λ y. f ([], y))
+pub step_stop : {V X Y : Type 0} (R : List Placed → V → Type 0) (a b : ReaderState) (L : List Placed → X → Type 0) (N : List Placed → Y → Type 0) (f : List X × Y → V) → Solid L → Within R a b (many L ▹ N) f → Refuses L (left b) → Counts (left b) → Within R a b N (λ y. f ([], y))
 step_stop {V} {X} {Y} R a b L N f s w refused counts = record {
   part = w.part;
   some = w.some;
@@ -213,7 +214,7 @@ step_stop {V} {X} {Y} R a b L N f s w refused counts = record {
     stop more n [] y h = (y, subst (λ (t : List Placed). N t y) (sym (h.2 ∙ ap (λ (t : List Placed). t ++ h.1) h.3)) h.4)
     stop more n (x ∷ xs) y h = absurd (first h.3.0 x h.3.3 (h.3.1 ++ h.1) (subst (Next (left b)) (h.2 ∙ ap (λ (t : List Placed). t ++ h.1) h.3.2 ∙ append_assoc h.3.0 h.3.1 h.1) n))
 
-same_value : {V X : Type 0} (R : List Placed → V → Type 0) (a b : Place) (M : List Placed → X → Type 0) (f g : X → V) → ((x : X) → f x ≡ g x) → Within R a b M f → Within R a b M g
+same_value : {V X : Type 0} (R : List Placed → V → Type 0) (a b : ReaderState) (M : List Placed → X → Type 0) (f g : X → V) → ((x : X) → f x ≡ g x) → Within R a b M f → Within R a b M g
 same_value {V} {X} R a b M f g e w = record {
   part = w.part;
   some = w.some;
@@ -222,7 +223,7 @@ same_value {V} {X} R a b M f g e w = record {
 }
 
 -- as often as it came
-pub step_many : {V X Y : Type 0} (R : List Placed → V → Type 0) (a b c : Place) (L : List Placed → X → Type 0) (N : List Placed → Y → Type 0) (f : List X × Y → V) (xs : List X) → Solid L → Clash L N → Within R a b (many L ▹ N) f → ManyParts L b c xs → Within R a c N (λ y. f (xs, y))
+pub step_many : {V X Y : Type 0} (R : List Placed → V → Type 0) (a b c : ReaderState) (L : List Placed → X → Type 0) (N : List Placed → Y → Type 0) (f : List X × Y → V) (xs : List X) → Solid L → Clash L N → Within R a b (many L ▹ N) f → ManyParts L b c xs → Within R a c N (λ y. f (xs, y))
 step_many {V} {X} {Y} R a b c L N f xs s d w p =
     let g : List X × Y → V = λ v. f (xs ++ v.0, v.1) in
     let more : Within R a c (many L ▹ N) g = step_some R a b c L N f p.rows xs s d w p.took p.says in
@@ -232,7 +233,7 @@ step_many {V} {X} {Y} R a b c L N f xs s d w p =
 abbrev pub no_more : List Placed → Unit {0} → Type 0
 no_more rows x = rows ≡ []
 
-pub closing : {V X : Type 0} (R : List Placed → V → Type 0) (a b : Place) (M : List Placed → X → Type 0) (f : X → V) → Within R a b M f → Within R a b (M ▹ no_more) (λ v. f v.0)
+pub closing : {V X : Type 0} (R : List Placed → V → Type 0) (a b : ReaderState) (M : List Placed → X → Type 0) (f : X → V) → Within R a b M f → Within R a b (M ▹ no_more) (λ v. f v.0)
 closing {V} {X} R a b M f w = record {
   part = w.part;
   some = w.some;
@@ -244,7 +245,7 @@ closing {V} {X} R a b M f w = record {
 }
 
 -- The item is whole where no more rows remain.
-pub whole : (a b : Place) (f : Unit {0} → Item) → Within IsItem a b no_more f → Whole a b (f tt)
+pub whole : (a b : ReaderState) (f : Unit {0} → Item) → Within IsItem a b no_more f → Whole a b (f tt)
 whole a b f w = record {
   part = w.part;
   took = w.took;
@@ -265,14 +266,14 @@ pub record Wants {X : Type 0} (M : List Placed → X → Type 0) : Type 0 where
   pub none : (x : X) → M [] x → ⊥
   pub complete : (n : ℕ) → Completes M n
 
-pub unfinished : {X : Type 0} (a b : Place) (M : List Placed → X → Type 0) (f : X → Item) (w : Within IsItem a b M f) → Wants M → Unfinished w.part
+pub unfinished : {X : Type 0} (a b : ReaderState) (M : List Placed → X → Type 0) (f : X → Item) (w : Within IsItem a b M f) → Wants M → Unfinished w.part
 unfinished a b M f w o = record {
   complete = λ n. let c = o.complete n in record { more = c.rows; item = f c.x; is_item = w.remains.forth (placed n c.rows) c.x c.says; good = c.good; no_feed = c.no_feed };
   none = λ i h. let r = w.remains.back [] i tt (subst (λ (z : List Placed). IsItem z i) (sym (append_nil w.part)) h) in o.none r.0 r.1;
 }
 
 -- a line that the part does not begin with
-pub break_line : {X Z : Type 0} (a b : Place) (p : Bool) (M : List Placed → X → Type 0) (L : List Placed → Z → Type 0) (f : X → Item) (at : ℕ) (out : Bool) → Within IsItem a b M f → Wants M → ((text : List ℕ) → Refuses L text → Refuses M text) → LineRefused L b at out → IsLineFaultWithin a.at p (left a) [] at out
+pub break_line : {X Z : Type 0} (a b : ReaderState) (p : Bool) (M : List Placed → X → Type 0) (L : List Placed → Z → Type 0) (f : X → Item) (at : ℕ) (out : Bool) → Within IsItem a b M f → Wants M → ((text : List ℕ) → Refuses L text → Refuses M text) → LineRefused L b at out → IsLineFaultWithin a.at p (left a) [] at out
 break_line a b p M L f at out w o refuses r =
     let c = r.before in
     let u = skip_comments IsItem a b c M f w r.took in
@@ -285,18 +286,14 @@ break_line a b p M L f at out w o refuses r =
     (line_within a c p u.part r.line first.rest out u.took first.spelled first.one_line r.counts r.is_out (unfinished a c M f u o) (λ e. absurd (u.some e)) dead r.fits)
 
 -- no line
-pub break_end : {X : Type 0} (a b : Place) (p : Bool) (M : List Placed → X → Type 0) (f : X → Item) (at : ℕ) → Within IsItem a b M f → Wants M → LineLacks b at → IsEndFaultWithin a.at p (left a) [] at
+pub break_end : {X : Type 0} (a b : ReaderState) (p : Bool) (M : List Placed → X → Type 0) (f : X → Item) (at : ℕ) → Within IsItem a b M f → Wants M → LineLacks b at → IsEndFaultWithin a.at p (left a) [] at
 break_end a b p M f at w o r =
     let c = r.before in
     let u = skip_comments IsItem a b c M f w r.took in
     subst (IsEndFaultWithin a.at p (left a) []) (sym r.here) (end_within a c p u.part u.took (unfinished a c M f u o) (no_row (left c) r.no_feed) (inl r.no_feed) (λ e. absurd (u.some e)) (record { line = r.fits; inside = endless_fits c.at (left c) r.no_feed }))
 
-pub data_counts : (row : Row) (bytes next : List ℕ) → IsData row bytes next → is_comment row.line ≡ false
-data_counts row bytes next (inl d) = ap is_comment d.line
-data_counts row bytes next (inr d) = ap is_comment d.line
-
 -- data that are cut off
-pub break_data : {X : Type 0} (a b : Place) (p : Bool) (M : List Placed → X → Type 0) (f : X → Item) (at : ℕ) → Within IsItem a b M f → Wants M → ((q : Placed) (bytes next : List ℕ) → IsData q.row bytes next → (x : X) × M (q ∷ []) x) → DataLacks b at → IsEndFaultWithin a.at p (left a) [] at
+pub break_data : {X : Type 0} (a b : ReaderState) (p : Bool) (M : List Placed → X → Type 0) (f : X → Item) (at : ℕ) → Within IsItem a b M f → Wants M → ((q : Placed) (bytes next : List ℕ) → IsData q.row bytes next → (x : X) × M (q ∷ []) x) → DataLacks b at → IsEndFaultWithin a.at p (left a) [] at
 break_data a b p M f at w o ends r =
     let c = r.before in
     let u = skip_comments IsItem a b c M f w r.took in
@@ -308,7 +305,7 @@ break_data a b p M f at w o ends r =
     (end_within a c p u.part u.took (unfinished a c M f u o) r.cut (inr (filled_stream a c p u.part r.line r.next r.more r.bytes u.took r.spelled r.one_line counts r.filled (f m.0) (u.remains.forth (q ∷ []) m.0 m.1))) (λ e. absurd (u.some e)) r.fits)
 
 -- a line that passes a limit
-pub break_limit : {X : Type 0} (a b : Place) (p : Bool) (M : List Placed → X → Type 0) (f : X → Item) (which : Which) (number : ℕ) → Within IsItem a b M f → Wants M → PassesAfter b which number → PassesFirst a.at p (left a) [] which number
+pub break_limit : {X : Type 0} (a b : ReaderState) (p : Bool) (M : List Placed → X → Type 0) (f : X → Item) (which : Which) (number : ℕ) → Within IsItem a b M f → Wants M → PassesAfter b which number → PassesFirst a.at p (left a) [] which number
 break_limit a b p M f which number w o r =
     let c = r.before in
     let u = skip_comments IsItem a b c M f w r.took in
@@ -328,7 +325,7 @@ to_done row bytes next (inr d) = inr (record { word = d.word; lines = d.lines; f
     done feed (inr e) = inr (e.0, refl)
 
 -- data that pass a limit
-pub break_over : {X : Type 0} (a b : Place) (p : Bool) (M : List Placed → X → Type 0) (f : X → Item) (which : Which) (number : ℕ) → Within IsItem a b M f → Wants M → ((q : Placed) (bytes next : List ℕ) → IsData q.row bytes next → (x : X) × M (q ∷ []) x) → DataPassesAfter b which number → PassesFirst a.at p (left a) [] which number
+pub break_over : {X : Type 0} (a b : ReaderState) (p : Bool) (M : List Placed → X → Type 0) (f : X → Item) (which : Which) (number : ℕ) → Within IsItem a b M f → Wants M → ((q : Placed) (bytes next : List ℕ) → IsData q.row bytes next → (x : X) × M (q ∷ []) x) → DataPassesAfter b which number → PassesFirst a.at p (left a) [] which number
 break_over a b p M f which number w o ends r =
     let c = r.before in
     let u = skip_comments IsItem a b c M f w r.took in

@@ -9,7 +9,7 @@ use Rattle.swh_fastrows.specs.Explains.{Reads, EndsWhole}
 use Rattle.swh_fastgrammar.specs.Grammar.{line_at, line, target, zeros, Item, IsItem, IsCommand}
 use Rattle.swh_fastgrammar.specs.Grammar.Item.{Says, Promise, Nothing}
 use Rattle.swh_fastrows.specs.Held.{IsNext}
-use Rattle.swh_fastrows.specs.Places.{Place, Took}
+use Rattle.swh_fastrows.specs.Places.{ReaderState, Took}
 use Rattle.swh_fastgrammar.specs.Row.{Opens, Placed}
 use Rattle.swh_fastgrammar.specs.Word.{NamesRef, NamesCommit}
 use Rattle.swh_fastlines.proofs.ItemLines.{kind}
@@ -33,7 +33,7 @@ reset_back q more Nothing name e h = let n : 4 ≡ 6 = kind q more Nothing (code
 abbrev pub reset_item : List ℕ → Start → Item
 reset_item name s = Says (Reset name s)
 
-pub reset_begun : (a b : Place) (at : ℕ) (name : List ℕ) → Took a b (line_at at (codes "reset " ++ name) ∷ []) → NamesRef name name → Within IsItem a b target (reset_item name)
+pub reset_begun : (a b : ReaderState) (at : ℕ) (name : List ℕ) → Took a b (line_at at (codes "reset " ++ name) ∷ []) → NamesRef name name → Within IsItem a b target (reset_item name)
 reset_begun a b at name t r = record {
   part = line_at at (codes "reset " ++ name) ∷ [];
   some = λ e. cc;
@@ -44,7 +44,7 @@ reset_begun a b at name t r = record {
   };
 }
 
-pub reset_reads : (a b c : Place) (at : ℕ) (name : List ℕ) (s : Start) → Took a b (line_at at (codes "reset " ++ name) ∷ []) → NamesRef name name → Reads target b c s → Reads IsCommand a c (Reset name s)
+pub reset_reads : (a b c : ReaderState) (at : ℕ) (name : List ℕ) (s : Start) → Took a b (line_at at (codes "reset " ++ name) ∷ []) → NamesRef name name → Reads target b c s → Reads IsCommand a c (Reset name s)
 reset_reads a b c at name s t n r = reads_last a b c target (reset_item name) s (Reset name s) refl (reset_begun a b at name t n) r
 
 -- a line that is no target
@@ -57,7 +57,7 @@ target_line q more NoTip h n = (n h.1 (ap (λ (x : Placed). x.row.line) (cons_cu
 target_line q more (Of a) h n = (n h.0 (ap (λ (x : Placed). x.row.line) (cons_cut q (line_at a.at (codes "from " ++ h.0)) more [] h.1).0)).0 a.it h.2.0
 
 -- what comes next is no target
-pub absent_end : (a b : Place) → Took a b [] → EndsWhole b → Reads target a b Absent
+pub absent_end : (a b : ReaderState) → Took a b [] → EndsWhole b → Reads target a b Absent
 absent_end a b t e = record {
   rows = [];
   took = t;
@@ -70,7 +70,7 @@ absent_end a b t e = record {
       ];
 }
 
-pub absent_line : (a b : Place) (text : List ℕ) → Took a b [] → IsNext b → b.held ≡ text ++ 10 ∷ [] → NeverTarget text → Reads target a b Absent
+pub absent_line : (a b : ReaderState) (text : List ℕ) → Took a b [] → IsNext b → b.held ≡ text ++ 10 ∷ [] → NeverTarget text → Reads target a b Absent
 absent_line a b text t n e never = record {
   rows = [];
   took = t;
@@ -86,11 +86,11 @@ one_row q p more Absent h = cc
 one_row q p more NoTip h = let e = (cons_cut q (line_at h.0 (codes "from " ++ h.1)) (p ∷ more) [] h.2).1 in cc
 one_row q p more (Of a) h = let e = (cons_cut q (line_at a.at (codes "from " ++ h.0)) (p ∷ more) [] h.1).1 in cc
 
-from_taken : (a b : Place) (text said : List ℕ) → Took a b [] → IsNext b → b.held ≡ text ++ 10 ∷ [] → text ≡ codes "from " ++ said → Took a (taken b) (line_at b.at (codes "from " ++ said) ∷ [])
+from_taken : (a b : ReaderState) (text said : List ℕ) → Took a b [] → IsNext b → b.held ≡ text ++ 10 ∷ [] → text ≡ codes "from " ++ said → Took a (taken b) (line_at b.at (codes "from " ++ said) ∷ [])
 from_taken a b text said t n e same =
     subst (λ (x : List ℕ). Took a (taken b) (line_at b.at x ∷ [])) same (line_taken a b text t e n (λ o. closed_word (codes "from ") said refl (subst Opens same o)))
 
-pub no_tip : (a b : Place) (text said : List ℕ) → Took a b [] → IsNext b → b.held ≡ text ++ 10 ∷ [] → text ≡ codes "from " ++ said → said ≡ zeros → Reads target a (taken b) NoTip
+pub no_tip : (a b : ReaderState) (text said : List ℕ) → Took a b [] → IsNext b → b.held ≡ text ++ 10 ∷ [] → text ≡ codes "from " ++ said → said ≡ zeros → Reads target a (taken b) NoTip
 no_tip a b text said t n e same z = record {
   rows = line_at b.at (codes "from " ++ said) ∷ [];
   took = from_taken a b text said t n e same;
@@ -98,7 +98,7 @@ no_tip a b text said t n e same z = record {
   closed = λ clear q more s m h. one_row (line_at b.at (codes "from " ++ said)) q more s h;
 }
 
-pub some_tip : (a b : Place) (text said : List ℕ) (v : At Commitish) → Took a b [] → IsNext b → b.held ≡ text ++ 10 ∷ [] → text ≡ codes "from " ++ said → NamesCommit said v.it → (said ≡ zeros → ⊥) → v.at ≡ b.at → Reads target a (taken b) (Of v)
+pub some_tip : (a b : ReaderState) (text said : List ℕ) (v : At Commitish) → Took a b [] → IsNext b → b.held ≡ text ++ 10 ∷ [] → text ≡ codes "from " ++ said → NamesCommit said v.it → (said ≡ zeros → ⊥) → v.at ≡ b.at → Reads target a (taken b) (Of v)
 some_tip a b text said v t n e same h z here = record {
   rows = line_at b.at (codes "from " ++ said) ∷ [];
   took = from_taken a b text said t n e same;

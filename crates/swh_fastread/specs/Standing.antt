@@ -7,12 +7,12 @@ use Rattle.swh_fastrows.specs.declared.fail.ReadFail.{ReadFail}
 use Rattle.swh_fastread.specs.declared.reader.Ending.{Ending}
 use Rattle.swh_fastread.specs.declared.reader.Ending.TheVariants.{Open, AtEnd, Refused}
 use Rattle.swh_fastrows.specs.Outcome.{StartsWith}
-use Rattle.swh_fastrows.specs.Places.{Place, position}
+use Rattle.swh_fastrows.specs.Places.{ReaderState, position}
 use Rattle.swh_fastread.specs.Steps.{EndsHere}
 
 -- the place in the stream, whether `done` was promised, and how it ended
 pub record Standing : Type 0 where
-  pub place : Place
+  pub place : ReaderState
   pub promised : Bool
   pub ending : Ending
 

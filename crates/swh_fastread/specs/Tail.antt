@@ -14,44 +14,44 @@ use Rattle.swh_fastlines.specs.Reading.{LineSays}
 use Rattle.swh_fastrows.specs.declared.fail.ReadFail.{ReadFail}
 use Rattle.swh_fastrows.specs.declared.fail.ReadFail.TheVariants.{BadStream, ReadFault, Limit, Memory}
 use Rattle.swh_fastrows.specs.Explains.{DataFails, IsClear}
-use Rattle.swh_fastrows.specs.Places.{Place, left, Took, Refuses, Counts, Part, position}
+use Rattle.swh_fastrows.specs.Places.{ReaderState, left, Took, Refuses, Counts, Part, position}
 
 -- It is known what comes next: a line is held, or no limit is passed.
-abbrev pub IsSure : Place → Bool → Type 0
+abbrev pub IsSure : ReaderState → Bool → Type 0
 IsSure place next = (next ≡ true) ⊎ IsClear (position place false)
 
 -- No line that begins the part comes next.
-pub record Stopped {X : Type 0} (L : List Placed → X → Type 0) (place : Place) : Type 0 where
+pub record Stopped {X : Type 0} (L : List Placed → X → Type 0) (place : ReaderState) : Type 0 where
   pub refused : Refuses L (left place)
   pub counts : Counts (left place)
 
 -- The parent was read where it comes next.
-abbrev pub ReadsFrom : Place → Place → Bool → Option (At Commitish) → Type 0
+abbrev pub ReadsFrom : ReaderState → ReaderState → Bool → Option (At Commitish) → Type 0
 ReadsFrom old new next None = Took old new [] × (IsSure new next → Stopped from new)
 ReadsFrom old new next (Some parent) = Part from old new parent
 
 -- The part was read this often.
-pub record ReadsSome {X : Type 0} (L : List Placed → X → Type 0) (old new : Place) (xs : List X) : Type 0 where
+pub record ReadsSome {X : Type 0} (L : List Placed → X → Type 0) (old new : ReaderState) (xs : List X) : Type 0 where
   pub rows : List Placed
   pub took : Took old new rows
   pub says : many L rows xs
 
 -- The part was read as often as it comes next.
-pub record ReadsAll {X : Type 0} (L : List Placed → X → Type 0) (old new : Place) (next : Bool) (xs : List X) : Type 0 where
+pub record ReadsAll {X : Type 0} (L : List Placed → X → Type 0) (old new : ReaderState) (next : Bool) (xs : List X) : Type 0 where
   pub some : ReadsSome L old new xs
   pub stopped : IsSure new next → Stopped L new
 
 -- The held line is a change, which was read with what follows it; or it is none, or passes a limit.
-abbrev pub FindsChange : Place → Place → Option (At Change) → Type 0
+abbrev pub FindsChange : ReaderState → ReaderState → Option (At Change) → Type 0
 FindsChange old new None = (new ≡ old) × (IsClear (position old false) → Stopped change old)
 FindsChange old new (Some a) = Part change old new a
 
 -- The line that is held sets a path to the data that follow it, and these are not given.
-pub record LacksInline (old : Place) (fail : ReadFail) : Type 0 where
+pub record LacksInline (old : ReaderState) (fail : ReadFail) : Type 0 where
   pub mode : ℕ
   pub path : List ℕ
   pub text : List ℕ
-  pub after : Place
+  pub after : ReaderState
   pub says : (bytes : List ℕ) → LineSays text (Set mode (Inline bytes) path)
   pub took : Took old after (line_at old.at text ∷ [])
   pub fails : DataFails after fail
@@ -64,20 +64,20 @@ IsOutside (Limit which number) = ⊥
 IsOutside Memory = Unit {0}
 
 -- why a change is not read
-abbrev pub ChangeFails : Place → ReadFail → Type 0
+abbrev pub ChangeFails : ReaderState → ReadFail → Type 0
 ChangeFails old fail = IsOutside fail ⊎ LacksInline old fail
 
 -- Some changes were read, and then one is not.
-pub record ChangesFail (old : Place) (fail : ReadFail) : Type 0 where
-  pub before : Place
+pub record ChangesFail (old : ReaderState) (fail : ReadFail) : Type 0 where
+  pub before : ReaderState
   pub changes : List (At Change)
   pub some : ReadsSome change old before changes
   pub fails : ChangeFails before fail
 
 -- The parent, the merges and the changes were read as far as each comes next.
-pub record ReadsTail (old new : Place) (parent : Option (At Commitish)) (merges : List (At Commitish)) (changes : List (At Change)) : Type 0 where
-  pub first : Place
-  pub second : Place
+pub record ReadsTail (old new : ReaderState) (parent : Option (At Commitish)) (merges : List (At Commitish)) (changes : List (At Change)) : Type 0 where
+  pub first : ReaderState
+  pub second : ReaderState
   pub next : Bool
   pub more : Bool
   pub reads_parent : ReadsFrom old first next parent
@@ -88,13 +88,13 @@ pub record ReadsTail (old new : Place) (parent : Option (At Commitish)) (merges 
   pub last : more ≡ false → new ≡ second
 
 -- the same with what a commit starts from
-abbrev pub ReadsStart : Place → Place → Start → List (At Commitish) → List (At Change) → Type 0
+abbrev pub ReadsStart : ReaderState → ReaderState → Start → List (At Commitish) → List (At Change) → Type 0
 ReadsStart old new start merges changes = (parent : Option (At Commitish)) × (start ≡ start_of parent) × ReadsTail old new parent merges changes
 
 -- The parent and the merges were read, and then the changes are not.
-pub record LacksChange (old : Place) (fail : ReadFail) : Type 0 where
-  pub first : Place
-  pub second : Place
+pub record LacksChange (old : ReaderState) (fail : ReadFail) : Type 0 where
+  pub first : ReaderState
+  pub second : ReaderState
   pub parent : Option (At Commitish)
   pub merges : List (At Commitish)
   pub reads_parent : ReadsFrom old first true parent
@@ -102,5 +102,5 @@ pub record LacksChange (old : Place) (fail : ReadFail) : Type 0 where
   pub fails : ChangesFail second fail
 
 -- why what follows the data is not read
-abbrev pub TailFails : Place → ReadFail → Type 0
+abbrev pub TailFails : ReaderState → ReadFail → Type 0
 TailFails old fail = IsOutside fail ⊎ LacksChange old fail

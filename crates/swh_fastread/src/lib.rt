@@ -1,7 +1,8 @@
 //! The reader of streams: the commands that the rows of a source are (git-fast-import(1), input format).
-//! Stands on `swh_base`, `swh_pieces`, `swh_outside`, `swh_fastlex`, `swh_fastgrammar`, `swh_fastlines` and `swh_fastrows`.
-//! Callers may rely on: a command is read exactly where the grammar has it, the first fault is told at its place, and the
-//! first limit before it; a text is a stream within the limits, has a fault, or passes a limit, and no two of these.
+//! Stands on `swh_base`, `swh_outside`, `swh_fastlex`, `swh_fastgrammar`, `swh_fastlines` and `swh_fastrows`.
+//! Callers may rely on: a command is read exactly where the grammar has it, the first fault is told at its place, and
+//! the first limit before it; a text is a stream within the limits, has a fault, or passes a limit, and no two of
+//! these.
 #![tactic(auto)]
 
 mod blob;

@@ -8,13 +8,12 @@ ghost use Rattle.swh_fastgrammar.specs.Grammar.{target, IsCommand};
 ghost use Rattle.swh_fastrows.specs.Held.{IsNext};
 ghost use Rattle.swh_fastgrammar.specs.Word.{NamesRef};
 
-use swh_base::Bytes;
+use swh_base::{Bytes, behind};
 use swh_fastgrammar::{At, Command, Start};
 use swh_fastlex::Word;
 use swh_fastlines::{commit_word, is_zeros};
 use swh_fastrows::{Outside, RowReader, next_line};
 use swh_outside::Source;
-use swh_pieces::behind;
 
 /// Where a reset leads: the commit that a line `from` names, where one comes next, or no tip where it names forty zeros.
 fn reset_target<S: Source>(rows: &mut RowReader<S>) -> Result<Start, Outside>

@@ -15,7 +15,7 @@ use Rattle.swh_fastgrammar.specs.declared.fault.StreamWhy.TheVariants.{End}
 use Rattle.swh_fastrows.proofs.Fitting.{EndsWithin, counted_fits, cut_end, row_end}
 use Rattle.swh_fastgrammar.specs.Grammar.{contents}
 use Rattle.swh_fastrows.specs.Held.{IsNext, IsShort, IsFed}
-use Rattle.swh_fastrows.specs.Places.{Place, left, Part, DataLacks}
+use Rattle.swh_fastrows.specs.Places.{ReaderState, left, Part, DataLacks}
 use Rattle.swh_fastgrammar.specs.Row.{Row, row_text, begins_with, IsData, Opens, IsRow}
 use Rattle.swh_fastrows.proofs.HeldLines.{taken, front_of, held_text, held_first, data_counts, next_fits}
 use Rattle.swh_fastrows.proofs.Joins.{took_none, took_row}
@@ -44,15 +44,15 @@ short_row text count rest no_feed number short row next e h =
         omega (arith, n, m, v, short, ap length r, length-append row.raw next, ap length d.raw, length-append bytes d.feed)
     by_data bytes (inr d) l r = no_angle text (60 ∷ d.word) count number (same_tail (codes "data ") text (codes "<<" ++ d.word) (l ∙ d.line))
 
-cut_here : (a c : Place) (count : ℕ) → OpensCounted a count → IsLine a.held → IsShort count (taken a) c → IsCut (left a)
+cut_here : (a c : ReaderState) (count : ℕ) → OpensCounted a count → IsLine a.held → IsShort count (taken a) c → IsCut (left a)
 cut_here a c count o l s row other f h =
     let line : List ℕ = codes "data " ++ o.0 in
     short_row o.0 count a.rest (front_of a.held line o.1 l) o.2 s.short row other (sym (held_text a line o.1) ∙ f) h
 
-end_here : (a c : Place) (count at : ℕ) → IsShort count (taken a) c → at ≡ c.at → at ≡ a.at + length (left a)
+end_here : (a c : ReaderState) (count at : ℕ) → IsShort count (taken a) c → at ≡ c.at → at ≡ a.at + length (left a)
 end_here a c count at s e = let here = s.here in omega (arith, e, here, length-append a.held a.rest)
 
-data_lacks : (a c : Place) (count at : ℕ) → OpensCounted a count → IsNext a → IsShort count (taken a) c → at ≡ c.at → at ≤ STREAM_LIMIT → DataLacks a at
+data_lacks : (a c : ReaderState) (count at : ℕ) → OpensCounted a count → IsNext a → IsShort count (taken a) c → at ≡ c.at → at ≤ STREAM_LIMIT → DataLacks a at
 data_lacks a c count at o next s e within =
     let l = next.line in
     let short = s.short in
@@ -77,18 +77,18 @@ data_lacks a c count at o next s e within =
     }
 
 -- The input ends after the last byte that a stream may have, inside data.
-pub cut_over : (a : Place) (line : List ℕ) (at : ℕ) → FirstLine (left a) line → Opens line → IsCut (left a) → at ≡ a.at + length (left a) → STREAM_LIMIT < at → DataPassesAfter a Stream (STREAM_LIMIT + 1)
+pub cut_over : (a : ReaderState) (line : List ℕ) (at : ℕ) → FirstLine (left a) line → Opens line → IsCut (left a) → at ≡ a.at + length (left a) → STREAM_LIMIT < at → DataPassesAfter a Stream (STREAM_LIMIT + 1)
 cut_over a line at first opens cut here over = record { before = a; line = line; took = took_none a; first = first; opens = opens; passes = record { line = line; first = first; opens = opens; size = length (left a); ends = inr (cut, refl); over = omega (arith, here, over); count = refl } }
 
 -- the two answers where the input ends inside data
-pub by_end : (a : Place) (at : ℕ) → (STREAM_LIMIT < at → DataPassesAfter a Stream (STREAM_LIMIT + 1)) → (at ≤ STREAM_LIMIT → DataLacks a at) → DataFails a (cut_fail at)
+pub by_end : (a : ReaderState) (at : ℕ) → (STREAM_LIMIT < at → DataPassesAfter a Stream (STREAM_LIMIT + 1)) → (at ≤ STREAM_LIMIT → DataLacks a at) → DataFails a (cut_fail at)
 by_end a at over lacks = decide (nat_lt STREAM_LIMIT at) refl
   where
     decide : (b : Bool) → nat_lt STREAM_LIMIT at ≡ b → DataFails a (if b then Limit Stream (STREAM_LIMIT + 1) else BadStream at End)
     decide true e = inr (over (grind (arith, e)))
     decide false e = inr (lacks (grind (arith, e)))
 
-pub counted_fails : (a c : Place) (fault : LineFault) (count at : ℕ) → OpensCounted a count → IsNext a → fault ≢ Limits → (fault ≡ Ends → IsShort count (taken a) c) → at ≡ c.at → DataFails a (data_fail fault at)
+pub counted_fails : (a c : ReaderState) (fault : LineFault) (count at : ℕ) → OpensCounted a count → IsNext a → fault ≢ Limits → (fault ≡ Ends → IsShort count (taken a) c) → at ≡ c.at → DataFails a (data_fail fault at)
 counted_fails a c Failed count at o l n s e = tt
 counted_fails a c Ends count at o l n s e =
     let line : List ℕ = codes "data " ++ o.0 in
@@ -97,31 +97,31 @@ counted_fails a c Limits count at o l n s e = absurd (n refl)
 counted_fails a c NoRoom count at o l n s e = tt
 
 -- a row of data, and the places before and after it
-pub record DataRow (a d : Place) (bytes : List ℕ) : Type 0 where
+pub record DataRow (a d : ReaderState) (bytes : List ℕ) : Type 0 where
   pub row : Row
   pub data_is : IsData row bytes (left d)
   pub text : left a ≡ row_text row ++ left d
   pub one_line : Contains row.line 10 → ⊥
   pub here : d.at ≡ a.at + length (row_text row)
 
-row_is : (a d : Place) (bytes : List ℕ) (r : DataRow a d bytes) → IsRow r.row (left d)
+row_is : (a d : ReaderState) (bytes : List ℕ) (r : DataRow a d bytes) → IsRow r.row (left d)
 row_is a d bytes r = record { one_line = r.one_line; after = inl (bytes, r.data_is) }
 
 -- the row ends where the place after it is
-pub row_within : (a d : Place) (bytes : List ℕ) (at : ℕ) → DataRow a d bytes → at ≡ d.at → at ≤ STREAM_LIMIT → EndsWithin a.at (left a)
+pub row_within : (a d : ReaderState) (bytes : List ℕ) (at : ℕ) → DataRow a d bytes → at ≡ d.at → at ≤ STREAM_LIMIT → EndsWithin a.at (left a)
 row_within a d bytes at r e within size ends =
     let same = row_end (left a) r.row (left d) r.text (row_is a d bytes r) size ends in
     let here = r.here in
     omega (arith, same, here, e, within)
 
-pub part_of : (a d : Place) (bytes : List ℕ) → DataRow a d bytes → Fits a.at (left a) → Part contents a d bytes
+pub part_of : (a d : ReaderState) (bytes : List ℕ) → DataRow a d bytes → Fits a.at (left a) → Part contents a d bytes
 part_of a d bytes r fits = record {
   rows = record { at = a.at; row = r.row } ∷ [];
   took = took_row a d r.row r.text (row_is a d bytes r) (data_counts r.row bytes (left d) r.data_is) fits r.here;
   says = (record { at = a.at; row = r.row }, left d, refl, r.data_is);
 }
 
-pub stream_passes : (a d : Place) (bytes : List ℕ) (at : ℕ) → DataRow a d bytes → at ≡ d.at → STREAM_LIMIT < at → DataPassesAfter a Stream (STREAM_LIMIT + 1)
+pub stream_passes : (a d : ReaderState) (bytes : List ℕ) (at : ℕ) → DataRow a d bytes → at ≡ d.at → STREAM_LIMIT < at → DataPassesAfter a Stream (STREAM_LIMIT + 1)
 stream_passes a d bytes at r e over =
     let here = r.here in
     let first : FirstLine (left a) r.row.line = record { rest = r.row.raw ++ left d; spelled = r.text ∙ append_assoc r.row.line (10 ∷ r.row.raw) (left d); one_line = r.one_line } in
@@ -135,12 +135,12 @@ stream_passes a d bytes at r e over =
       passes = record { line = r.row.line; first = first; opens = opens; size = length (row_text r.row); ends = inl (r.row, left d, r.text, row_is a d bytes r, refl); over = omega (arith, here, e, over); count = refl };
     }
 
-pub counted_part : (a d : Place) (bytes : List ℕ) (count at : ℕ) → OpensCounted a count → IsNext a → DataRow a d bytes → at ≡ d.at → at ≤ STREAM_LIMIT → Part contents a d bytes
+pub counted_part : (a d : ReaderState) (bytes : List ℕ) (count at : ℕ) → OpensCounted a count → IsNext a → DataRow a d bytes → at ≡ d.at → at ≤ STREAM_LIMIT → Part contents a d bytes
 counted_part a d bytes count at o next r e within =
     let line : List ℕ = codes "data " ++ o.0 in
     part_of a d bytes r (record { line = next_fits a line next o.1; inside = counted_fits a.at (left a) o.0 count (held_first a line o.1 next.line) o.2 (row_within a d bytes at r e within) })
 
-pub counted_row : (a c d : Place) (bytes : List ℕ) (count : ℕ) (fed : Bool) → OpensCounted a count → IsLine a.held → length bytes ≡ count → a.rest ≡ bytes ++ c.rest → c.at ≡ (taken a).at + count → IsFed c d fed → d.held ≡ [] → DataRow a d bytes
+pub counted_row : (a c d : ReaderState) (bytes : List ℕ) (count : ℕ) (fed : Bool) → OpensCounted a count → IsLine a.held → length bytes ≡ count → a.rest ≡ bytes ++ c.rest → c.at ≡ (taken a).at + count → IsFed c d fed → d.held ≡ [] → DataRow a d bytes
 counted_row a c d bytes count true o l size text at f none =
     let line : List ℕ = codes "data " ++ o.0 in
     let now : left d ≡ d.rest = ap (λ (h : List ℕ). h ++ d.rest) none in

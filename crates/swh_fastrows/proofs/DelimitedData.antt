@@ -15,7 +15,7 @@ use Rattle.swh_fastrows.specs.Within.{IsCut, OpensLines}
 use Rattle.swh_fastgrammar.specs.Grammar.{contents}
 use Rattle.swh_fastrows.proofs.Fitting.{EndsWithin, delimited_fits, word_closes, end_closes, cut_end}
 use Rattle.swh_fastrows.specs.Held.{IsNext, IsFed, TakesLines, CutsLines, LinesFail}
-use Rattle.swh_fastrows.specs.Places.{Place, left, Part, DataLacks}
+use Rattle.swh_fastrows.specs.Places.{ReaderState, left, Part, DataLacks}
 use Rattle.swh_fastgrammar.specs.Row.{Row, row_text, begins_with, IsFeed, IsData, Opens, IsRow}
 use Rattle.swh_fastrows.proofs.HeldLines.{taken, front_of, held_text, held_first, in_middle, next_fits}
 use Rattle.swh_fastrows.proofs.Joins.{took_none}
@@ -104,16 +104,16 @@ fills word bytes front some one l f = elim (is_or_not front word) [
 ]
 
 -- what is left, where the lines end before the line of the word
-cut_text : (a c : Place) (word : List ℕ) → OpensDelimited a word → (s : CutsLines (taken a) c word body_limit) → left a ≡ line_of word ++ 10 ∷ (s.bytes ++ s.front)
+cut_text : (a c : ReaderState) (word : List ℕ) → OpensDelimited a word → (s : CutsLines (taken a) c word body_limit) → left a ≡ line_of word ++ 10 ∷ (s.bytes ++ s.front)
 cut_text a c word o s = held_text a (line_of word) o.line ∙ ap (λ (t : List ℕ). line_of word ++ 10 ∷ t) s.all
 
-cut_here : (a c : Place) (word : List ℕ) → OpensDelimited a word → IsLine a.held → CutsLines (taken a) c word body_limit → IsCut (left a)
+cut_here : (a c : ReaderState) (word : List ℕ) → OpensDelimited a word → IsLine a.held → CutsLines (taken a) c word body_limit → IsCut (left a)
 cut_here a c word o l s row other f h = cut_row word s.bytes s.front o.not_empty o.one_line (front_of a.held (line_of word) o.line l) s.lines s.no_feed row other (sym (cut_text a c word o s) ∙ f) h
 
-end_here : (a c : Place) (word : List ℕ) (at : ℕ) → CutsLines (taken a) c word body_limit → at ≡ c.at → at ≡ a.at + length (left a)
+end_here : (a c : ReaderState) (word : List ℕ) (at : ℕ) → CutsLines (taken a) c word body_limit → at ≡ c.at → at ≡ a.at + length (left a)
 end_here a c word at s e = let here = s.here in omega (arith, e, here, length-append a.held a.rest)
 
-lines_lack : (a c : Place) (word : List ℕ) (at : ℕ) → OpensDelimited a word → IsNext a → CutsLines (taken a) c word body_limit → at ≡ c.at → at ≤ STREAM_LIMIT → DataLacks a at
+lines_lack : (a c : ReaderState) (word : List ℕ) (at : ℕ) → OpensDelimited a word → IsNext a → CutsLines (taken a) c word body_limit → at ≡ c.at → at ≤ STREAM_LIMIT → DataLacks a at
 lines_lack a c word at o next s e within =
     let l = next.line in
     let fill = fills word s.bytes s.front o.not_empty o.one_line s.lines s.no_feed in
@@ -134,10 +134,10 @@ lines_lack a c word at o next s e within =
       here = end_here a c word at s e;
     }
 
-opens_lines : (a : Place) (word bytes rest : List ℕ) → OpensDelimited a word → IsLine a.held → AreLines word bytes → a.rest ≡ bytes ++ rest → OpensLines (left a) bytes rest
+opens_lines : (a : ReaderState) (word bytes rest : List ℕ) → OpensDelimited a word → IsLine a.held → AreLines word bytes → a.rest ≡ bytes ++ rest → OpensLines (left a) bytes rest
 opens_lines a word bytes rest o l lines e = record { word = word; first = held_first a (line_of word) o.line l; opens = line_opens word o.not_empty o.one_line; lines = lines; cut = e }
 
-pub delimited_fails : (a c : Place) (word : List ℕ) (fault : DataFault) (at : ℕ) → OpensDelimited a word → IsNext a → LinesFail (taken a) c word body_limit fault → at ≡ c.at → DataFails a (lines_fail fault at)
+pub delimited_fails : (a c : ReaderState) (word : List ℕ) (fault : DataFault) (at : ℕ) → OpensDelimited a word → IsNext a → LinesFail (taken a) c word body_limit fault → at ≡ c.at → DataFails a (lines_fail fault at)
 delimited_fails a c word Data.Failed at o n s e = tt
 delimited_fails a c word Data.End at o n s e = by_end a at (cut_over a (line_of word) at (held_first a (line_of word) o.line n.line) (line_opens word o.not_empty o.one_line) (cut_here a c word o n.line s) (end_here a c word at s e)) (lines_lack a c word at o n s e)
 delimited_fails a c word Data.Line at o n s e = inr (record {
@@ -158,14 +158,14 @@ delimited_fails a c word Data.Body at o n s e = inr (record {
 })
 delimited_fails a c word Data.Memory at o n s e = tt
 
-pub delimited_part : (a c d : Place) (word bytes : List ℕ) (at : ℕ) → OpensDelimited a word → IsNext a → AreLines word bytes → length bytes ≤ body_limit → TakesLines (taken a) c word bytes → DataRow a d bytes → at ≡ d.at → at ≤ STREAM_LIMIT → Part contents a d bytes
+pub delimited_part : (a c d : ReaderState) (word bytes : List ℕ) (at : ℕ) → OpensDelimited a word → IsNext a → AreLines word bytes → length bytes ≤ body_limit → TakesLines (taken a) c word bytes → DataRow a d bytes → at ≡ d.at → at ≤ STREAM_LIMIT → Part contents a d bytes
 delimited_part a c d word bytes at o next lines within t r e far =
     let short = next.short in
     let words : length word < line_limit = omega (arith, short, ap length o.line, length-append word (10 ∷ [])) in
     let after : a.rest ≡ bytes ++ (word ++ 10 ∷ c.rest) = t.cut ∙ append_assoc bytes (word ++ 10 ∷ []) c.rest ∙ ap (λ (x : List ℕ). bytes ++ x) (append_assoc word (10 ∷ []) c.rest) in
     part_of a d bytes r (record { line = next_fits a (line_of word) next o.line; inside = delimited_fits a.at (left a) word bytes (word ++ 10 ∷ c.rest) (held_first a (line_of word) o.line next.line) lines after (word_closes word c.rest o.one_line words) within (row_within a d bytes at r e far) })
 
-pub delimited_row : (a c d : Place) (word bytes : List ℕ) (fed : Bool) → OpensDelimited a word → IsLine a.held → AreLines word bytes → TakesLines (taken a) c word bytes → IsFed c d fed → d.held ≡ [] → DataRow a d bytes
+pub delimited_row : (a c d : ReaderState) (word bytes : List ℕ) (fed : Bool) → OpensDelimited a word → IsLine a.held → AreLines word bytes → TakesLines (taken a) c word bytes → IsFed c d fed → d.held ≡ [] → DataRow a d bytes
 delimited_row a c d word bytes true o l lines t f none =
     let now : left d ≡ d.rest = ap (λ (h : List ℕ). h ++ d.rest) none in
     let raw : List ℕ = bytes ++ (word ++ 10 ∷ (10 ∷ [])) in

@@ -20,7 +20,7 @@ has_first c t e = (0, omega arith, e)
 has_more : (c : ℕ) (t : List ℕ) → Contains t 10 → Contains (c ∷ t) 10
 has_more c t h = let l = h.1 in (suc h.0, omega (arith, l), h.2)
 
-in_middle : (a x : List ℕ) → Contains (a ++ 10 ∷ x) 10
+pub in_middle : (a x : List ℕ) → Contains (a ++ 10 ∷ x) 10
 in_middle [] x = has_first 10 x refl
 in_middle (c ∷ a) x = has_more c (a ++ 10 ∷ x) (in_middle a x)
 

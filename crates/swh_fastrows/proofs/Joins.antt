@@ -2,7 +2,7 @@
 use Rattle.std.proofs.Common.{◌≡◌, ℕ, suc, ◌+◌, ◌⊎◌, inl, inr, Bool, true, false, ◌||◌, if◌then◌else◌, List, [], ◌∷◌, ◌++◌, length, length-append, Contains, refl, sym, ap, ◌∙◌, subst, arith, append_assoc}
 use Rattle.swh_base.proofs.Splits.{first_split}
 use Rattle.swh_fastgrammar.specs.Grammar.{line_at}
-use Rattle.swh_fastrows.specs.Places.{Place, left, Took, FirstLine}
+use Rattle.swh_fastrows.specs.Places.{ReaderState, left, Took, FirstLine}
 use Rattle.swh_fastrows.specs.Within.{LineFits, Fits, AllFit}
 use Rattle.swh_fastrows.proofs.Fitting.{closed_fits}
 use Rattle.swh_fastgrammar.specs.Row.{Row, row_text, text_of, begins_with, IsFeed, IsData, Opens, IsRow, AreRows, Placed, placed, is_comment}
@@ -84,10 +84,10 @@ fit-append at (r ∷ rs) qs x hr hq =
     let sizes : at + length (text_of (r ∷ rs)) ≡ at + length (row_text r) + length (text_of rs) = omega (arith, length-append (row_text r) (text_of rs)) in
     (subst (Fits at) (joined (r ∷ rs) qs x) hr.0, fit-append (at + length (row_text r)) rs qs x hr.1 (subst (λ (n : ℕ). AllFit n qs x) sizes hq))
 
-pub took_none : (a : Place) → Took a a []
+pub took_none : (a : ReaderState) → Took a a []
 took_none a = record { rows = []; spelled = refl; good = tt; fit = tt; those = refl; here = omega arith }
 
-pub took_append : (a b c : Place) (p q : List Placed) → Took a b p → Took b c q → Took a c (p ++ q)
+pub took_append : (a b c : ReaderState) (p q : List Placed) → Took a b p → Took b c q → Took a c (p ++ q)
 took_append a b c p q s t =
     let n : ℕ = a.at + length (text_of s.rows) in
     let back : placed n t.rows ≡ q = ap (λ (k : ℕ). placed k t.rows) (sym s.here) ∙ t.those in
@@ -102,14 +102,14 @@ took_append a b c p q s t =
       here = omega (arith, first, second, ap length (text_of-append s.rows t.rows), length-append (text_of s.rows) (text_of t.rows));
     }
 
-pub took_after : (a b c : Place) (q : List Placed) → Took a b [] → Took b c q → Took a c q
+pub took_after : (a b c : ReaderState) (q : List Placed) → Took a b [] → Took b c q → Took a c q
 took_after a b c q s t = took_append a b c [] q s t
 
-pub took_before : (a b c : Place) (p : List Placed) → Took a b p → Took b c [] → Took a c p
+pub took_before : (a b c : ReaderState) (p : List Placed) → Took a b p → Took b c [] → Took a c p
 took_before a b c p s t = subst (Took a c) (append_nil p) (took_append a b c p [] s t)
 
 -- what was read and what is left are as long as what was left
-pub took_size : (a b : Place) (p : List Placed) → Took a b p → a.at + length (left a) ≡ b.at + length (left b)
+pub took_size : (a b : ReaderState) (p : List Placed) → Took a b p → a.at + length (left a) ≡ b.at + length (left b)
 took_size a b p t = let h = t.here in omega (arith, h, ap length t.spelled, length-append (text_of t.rows) (left b))
 
 keep_row : (b : Bool) (p : Placed) (ps : List Placed) → b ≡ false → (if b then ps else p ∷ ps) ≡ p ∷ ps
@@ -126,7 +126,7 @@ placed_row n r rs e = keep_row (is_comment r.line) (record { at = n; row = r }) 
 one_text : (r : Row) → text_of (r ∷ []) ≡ row_text r
 one_text r = append_nil (row_text r)
 
-pub took_row : (a b : Place) (r : Row) → left a ≡ row_text r ++ left b → IsRow r (left b) → is_comment r.line ≡ false → Fits a.at (left a) → b.at ≡ a.at + length (row_text r) → Took a b (record { at = a.at; row = r } ∷ [])
+pub took_row : (a b : ReaderState) (r : Row) → left a ≡ row_text r ++ left b → IsRow r (left b) → is_comment r.line ≡ false → Fits a.at (left a) → b.at ≡ a.at + length (row_text r) → Took a b (record { at = a.at; row = r } ∷ [])
 took_row a b r e i c k h = record {
   rows = r ∷ [];
   spelled = e ∙ ap (λ (x : List ℕ). x ++ left b) (sym (one_text r));
@@ -136,7 +136,7 @@ took_row a b r e i c k h = record {
   here = h ∙ ap (λ (x : List ℕ). a.at + length x) (sym (one_text r));
 }
 
-pub took_comment : (a b : Place) (r : Row) → left a ≡ row_text r ++ left b → IsRow r (left b) → is_comment r.line ≡ true → Fits a.at (left a) → b.at ≡ a.at + length (row_text r) → Took a b []
+pub took_comment : (a b : ReaderState) (r : Row) → left a ≡ row_text r ++ left b → IsRow r (left b) → is_comment r.line ≡ true → Fits a.at (left a) → b.at ≡ a.at + length (row_text r) → Took a b []
 took_comment a b r e i c k h = record {
   rows = r ∷ [];
   spelled = e ∙ ap (λ (x : List ℕ). x ++ left b) (sym (one_text r));
@@ -150,7 +150,7 @@ pub plain_row : (line next : List ℕ) → (Contains line 10 → ⊥) → (Opens
 plain_row line next n o = record { one_line = n; after = inr (o, refl) }
 
 -- a line that opens no data
-pub took_line : (a b : Place) (line : List ℕ) → left a ≡ line ++ 10 ∷ left b → (Contains line 10 → ⊥) → (Opens line → ⊥) → is_comment line ≡ false → LineFits a.at (left a) → b.at ≡ a.at + length line + 1 → Took a b (line_at a.at line ∷ [])
+pub took_line : (a b : ReaderState) (line : List ℕ) → left a ≡ line ++ 10 ∷ left b → (Contains line 10 → ⊥) → (Opens line → ⊥) → is_comment line ≡ false → LineFits a.at (left a) → b.at ≡ a.at + length line + 1 → Took a b (line_at a.at line ∷ [])
 took_line a b line e n o c k h =
     took_row a b (plain line) (e ∙ sym (append_assoc line (10 ∷ []) (left b))) (plain_row line (left b) n o) c (record { line = k; inside = closed_fits a.at (left a) line (record { rest = left b; spelled = e; one_line = n }) o }) (omega (arith, h, length-append line (10 ∷ [])))
 

@@ -16,19 +16,19 @@ use Rattle.swh_fastgrammar.specs.Fault.{is_left_out}
 use Rattle.swh_fastgrammar.specs.Grammar.{contents}
 use Rattle.swh_fastrows.specs.Held.{EndsNext}
 use Rattle.swh_fastrows.specs.Outcome.{IsFaultWithin, PassesFirst}
-use Rattle.swh_fastrows.specs.Places.{Place, left, Took, LineRefused, LineLacks, DataLacks, Position, position, MayCount}
+use Rattle.swh_fastrows.specs.Places.{ReaderState, left, Took, LineRefused, LineLacks, DataLacks, Position, position, MayCount}
 use Rattle.swh_fastrows.specs.Within.{FirstLine, LinePasses, DataPasses, LineFits}
 use Rattle.swh_fastgrammar.specs.Row.{Opens, Placed, is_comment}
 
 -- After comments the next line passes a limit by itself.
-pub record PassesAfter (old : Place) (which : Which) (number : ℕ) : Type 0 where
-  pub before : Place
+pub record PassesAfter (old : ReaderState) (which : Which) (number : ℕ) : Type 0 where
+  pub before : ReaderState
   pub took : Took old before []
   pub passes : LinePasses before.at (left before) which number
 
 -- After comments the next line opens data, which pass a limit.
-pub record DataPassesAfter (old : Place) (which : Which) (number : ℕ) : Type 0 where
-  pub before : Place
+pub record DataPassesAfter (old : ReaderState) (which : Which) (number : ℕ) : Type 0 where
+  pub before : ReaderState
   pub line : List ℕ
   pub took : Took old before []
   pub first : FirstLine (left before) line
@@ -36,7 +36,7 @@ pub record DataPassesAfter (old : Place) (which : Which) (number : ℕ) : Type 0
   pub passes : DataPasses before.at (left before) which number
 
 -- why the part does not come next
-abbrev pub PartFails : {X : Type 0} → (List Placed → X → Type 0) → Place → ReadFail → Type 0
+abbrev pub PartFails : {X : Type 0} → (List Placed → X → Type 0) → ReaderState → ReadFail → Type 0
 PartFails L old (BadStream at Grammar) = LineRefused L old at false
 PartFails L old (BadStream at End) = LineLacks old at
 PartFails L old (BadStream at LeftOut) = LineRefused L old at true
@@ -48,7 +48,7 @@ PartFails L old (Limit which number) = PassesAfter old which number
 PartFails L old Memory = Unit {0}
 
 -- why data do not come next, or are cut off
-abbrev pub DataFails : Place → ReadFail → Type 0
+abbrev pub DataFails : ReaderState → ReadFail → Type 0
 DataFails old (BadStream at Grammar) = LineRefused contents old at false
 DataFails old (BadStream at End) = LineLacks old at ⊎ DataLacks old at
 DataFails old (BadStream at LeftOut) = LineRefused contents old at true
@@ -60,7 +60,7 @@ DataFails old (Limit which number) = PassesAfter old which number ⊎ DataPasses
 DataFails old Memory = Unit {0}
 
 -- why no command comes next, with no whole command before
-abbrev pub Explains : Place → Bool → ReadFail → Type 0
+abbrev pub Explains : ReaderState → Bool → ReadFail → Type 0
 Explains old promised (BadStream at why) = IsFaultWithin old.at promised (left old) [] at why
 Explains old promised ReadFault = Unit {0}
 Explains old promised (Limit which number) = PassesFirst old.at promised (left old) [] which number
@@ -84,17 +84,17 @@ lines_fail Data.Body at = Limit Body (body_limit + 1)
 lines_fail Data.Memory at = Memory
 
 -- The line that is held opens data up to this word.
-pub record OpensDelimited (place : Place) (word : List ℕ) : Type 0 where
+pub record OpensDelimited (place : ReaderState) (word : List ℕ) : Type 0 where
   pub line : place.held ≡ (codes "data <<" ++ word) ++ 10 ∷ []
   pub not_empty : word ≢ []
   pub one_line : Contains word 10 → ⊥
 
 -- The line that is held opens so many bytes of data.
-abbrev pub OpensCounted : Place → ℕ → Type 0
+abbrev pub OpensCounted : ReaderState → ℕ → Type 0
 OpensCounted place count = (text : List ℕ) × (place.held ≡ (codes "data " ++ text) ++ 10 ∷ []) × IsNumber text count
 
 -- Nothing is wrong with the grammar here: the source failed, memory ran out, or a limit is passed.
-abbrev pub Stops : Place → ReadFail → Type 0
+abbrev pub Stops : ReaderState → ReadFail → Type 0
 Stops old (BadStream at why) = ⊥
 Stops old ReadFault = Unit {0}
 Stops old (Limit which number) = PassesAfter old which number
@@ -102,7 +102,7 @@ Stops old Memory = Unit {0}
 
 -- The next line is no comment, passes no limit by itself, begins at `at`, and belongs to what is left out exactly where
 -- `out` says so.
-pub record LineAt (old : Place) (at : ℕ) (out : Bool) : Type 0 where
+pub record LineAt (old : ReaderState) (at : ℕ) (out : Bool) : Type 0 where
   pub line : List ℕ
   pub first : FirstLine (left old) line
   pub counts : is_comment line ≡ false
@@ -111,7 +111,7 @@ pub record LineAt (old : Place) (at : ℕ) (out : Bool) : Type 0 where
   pub fits : LineFits old.at (left old)
 
 -- what is next, told as a fault
-abbrev pub Refusal : Place → ReadFail → Type 0
+abbrev pub Refusal : ReaderState → ReadFail → Type 0
 Refusal old (BadStream at Grammar) = LineAt old at false
 Refusal old (BadStream at End) = (Contains (left old) 10 → ⊥) × (at ≡ old.at + length (left old)) × LineFits old.at (left old)
 Refusal old (BadStream at LeftOut) = LineAt old at true
@@ -130,12 +130,12 @@ abbrev pub IsClear : Position → Type 0
 IsClear p = LineFits p.at p.left
 
 -- The part was read, and no next line goes on with it, unless that line passes a limit.
-pub record Reads {X : Type 0} (L : List Placed → X → Type 0) (old new : Place) (x : X) : Type 0 where
+pub record Reads {X : Type 0} (L : List Placed → X → Type 0) (old new : ReaderState) (x : X) : Type 0 where
   pub rows : List Placed
   pub took : Took old new rows
   pub says : L rows x
   pub closed : IsClear (position new false) → (p : Placed) (more : List Placed) (y : X) → MayCount (left new) p.row.line → L (rows ++ p ∷ more) y → ⊥
 
 -- Nothing comes next, or what does passes a limit.
-abbrev pub EndsWhole : Place → Type 0
+abbrev pub EndsWhole : ReaderState → Type 0
 EndsWhole place = EndsNext place ⊎ ((which : Which) × (number : ℕ) × LinePasses place.at (left place) which number)

@@ -11,7 +11,7 @@ use Rattle.swh_fastlex.specs.declared.fault.DataFault.TheVariants.{Failed, Body,
 use Rattle.swh_fastlex.specs.declared.fault.DataFault.TheVariants as Data
 use Rattle.swh_fastrows.specs.declared.row_source.TheConstants.{STREAM_LIMIT}
 use Rattle.swh_fastrows.specs.declared.ahead.Ahead.{Ahead}
-use Rattle.swh_fastrows.specs.Places.{Place}
+use Rattle.swh_fastrows.specs.Places.{ReaderState}
 use Rattle.swh_fastgrammar.specs.Row.{begins_with, is_comment}
 use Rattle.swh_fastrows.specs.declared.ahead.Ahead.TheVariants.{Line, End, Long, Over}
 
@@ -45,7 +45,7 @@ IsAhead at held Long = IsHeld held × (length held ≡ held_limit) × (at + leng
 IsAhead at held Over = (STREAM_LIMIT < at + length held) × IsHeld held
 
 -- Nothing follows the held beginning of a line that is no longer than a line may be.
-abbrev pub EndsHeld : Place → Type 0
+abbrev pub EndsHeld : ReaderState → Type 0
 EndsHeld place = length place.held < held_limit → (Contains place.held 10 → ⊥) → place.rest ≡ []
 
 -- The line that is held is not skipped.
@@ -57,17 +57,17 @@ abbrev pub HeldFits : List ℕ → Type 0
 HeldFits held = (line : List ℕ) → held ≡ line ++ 10 ∷ [] → (which : Which) (number : ℕ) → PassesWords line which number → ⊥
 
 -- Fewer bytes were left than were wanted. All of them are passed.
-pub record IsShort (count : ℕ) (old new : Place) : Type 0 where
+pub record IsShort (count : ℕ) (old new : ReaderState) : Type 0 where
   pub short : length old.rest < count
   pub here : new.at ≡ old.at + length old.rest
 
 -- An LF was next and is passed, or none was next.
-abbrev pub IsFed : Place → Place → Bool → Type 0
+abbrev pub IsFed : ReaderState → ReaderState → Bool → Type 0
 IsFed old new true = (old.rest ≡ 10 ∷ new.rest) × (new.at ≡ old.at + 1)
 IsFed old new false = (new.rest ≡ old.rest) × (begins_with 10 old.rest ≡ false) × (new.at ≡ old.at)
 
 -- A whole line that counts is held, within the limits of the stream, of lines, and of the words in it.
-pub record IsNext (place : Place) : Type 0 where
+pub record IsNext (place : ReaderState) : Type 0 where
   pub line : IsLine place.held
   pub counts : HeldCounts place.held
   pub fits : HeldFits place.held
@@ -75,20 +75,20 @@ pub record IsNext (place : Place) : Type 0 where
   pub short : length place.held ≤ line_limit
 
 -- What is held has no LF, nothing follows it, and it is within the limits of the stream and of lines.
-pub record EndsNext (place : Place) : Type 0 where
+pub record EndsNext (place : ReaderState) : Type 0 where
   pub no_feed : Contains place.held 10 → ⊥
   pub nothing : place.rest ≡ []
   pub short : length place.held ≤ line_limit
   pub within : place.at + length place.held ≤ STREAM_LIMIT
 
 -- These lines are passed, and the line of the word after them.
-pub record TakesLines (old new : Place) (word bytes : List ℕ) : Type 0 where
+pub record TakesLines (old new : ReaderState) (word bytes : List ℕ) : Type 0 where
   pub cut : old.rest ≡ (bytes ++ (word ++ 10 ∷ [])) ++ new.rest
   pub here : new.at ≡ old.at + length (bytes ++ (word ++ 10 ∷ []))
 
 -- The lines end before the line of the word: what is left is lines, and a front of one more, within the limits. All of it
 -- is passed.
-pub record CutsLines (old new : Place) (word : List ℕ) (limit : ℕ) : Type 0 where
+pub record CutsLines (old new : ReaderState) (word : List ℕ) (limit : ℕ) : Type 0 where
   pub bytes : List ℕ
   pub front : List ℕ
   pub lines : AreLines word bytes
@@ -99,7 +99,7 @@ pub record CutsLines (old new : Place) (word : List ℕ) (limit : ℕ) : Type 0 
   pub here : new.at ≡ old.at + length old.rest
 
 -- Lines are passed, and of the next as many bytes as a line may have, with no LF. More follows.
-pub record LongLine (old new : Place) (word : List ℕ) : Type 0 where
+pub record LongLine (old new : ReaderState) (word : List ℕ) : Type 0 where
   pub bytes : List ℕ
   pub front : List ℕ
   pub lines : AreLines word bytes
@@ -109,14 +109,14 @@ pub record LongLine (old new : Place) (word : List ℕ) : Type 0 where
   pub more : new.rest ≢ []
 
 -- Lines were read that together have more bytes than the limit.
-pub record ManyLines (old new : Place) (word : List ℕ) (limit : ℕ) : Type 0 where
+pub record ManyLines (old new : ReaderState) (word : List ℕ) (limit : ℕ) : Type 0 where
   pub bytes : List ℕ
   pub lines : AreLines word bytes
   pub above : limit < length bytes
   pub cut : old.rest ≡ bytes ++ new.rest
 
 -- why the lines are not given
-abbrev pub LinesFail : Place → Place → List ℕ → ℕ → DataFault → Type 0
+abbrev pub LinesFail : ReaderState → ReaderState → List ℕ → ℕ → DataFault → Type 0
 LinesFail old new word limit Failed = Unit {0}
 LinesFail old new word limit Data.End = CutsLines old new word limit
 LinesFail old new word limit Data.Line = LongLine old new word

@@ -9,7 +9,7 @@ pub use Rattle.swh_fastrows.specs.Within.{FirstLine}
 
 -- Where a reader of rows stands: the place of the first byte that is to be read, the bytes that it holds, what follows them
 -- in its source, how many bytes of this the source gave already, how often it failed, and where it was opened.
-pub record Place : Type 0 where
+pub record ReaderState : Type 0 where
   pub at : ℕ
   pub held : List ℕ
   pub rest : List ℕ
@@ -25,11 +25,11 @@ pub record HoldsFront (count : ℕ) (rest now : List ℕ) : Type 0 where
   pub within : length front ≤ WINDOW
 
 -- what is to be read
-abbrev pub left : Place → List ℕ
+abbrev pub left : ReaderState → List ℕ
 left place = place.held ++ place.rest
 
 -- These rows were read, and the comments before, between and after them; none passes a limit.
-pub record Took (old new : Place) (part : List Placed) : Type 0 where
+pub record Took (old new : ReaderState) (part : List Placed) : Type 0 where
   pub rows : List Row
   pub spelled : left old ≡ text_of rows ++ left new
   pub good : AreRows rows (left new)
@@ -46,29 +46,29 @@ abbrev pub Counts : List ℕ → Type 0
 Counts text = (line : List ℕ) → FirstLine text line → is_comment line ≡ false
 
 -- The part was read, and says this.
-pub record Part {X : Type 0} (L : List Placed → X → Type 0) (old new : Place) (x : X) : Type 0 where
+pub record Part {X : Type 0} (L : List Placed → X → Type 0) (old new : ReaderState) (x : X) : Type 0 where
   pub rows : List Placed
   pub took : Took old new rows
   pub says : L rows x
 
 -- The part does not come next.
-pub record Lacks {X : Type 0} (L : List Placed → X → Type 0) (old new : Place) : Type 0 where
+pub record Lacks {X : Type 0} (L : List Placed → X → Type 0) (old new : ReaderState) : Type 0 where
   pub took : Took old new []
   pub refused : Refuses L (left new)
   pub counts : Counts (left new)
 
 -- The part was read where it comes next.
-abbrev pub OptionalPart : {X : Type 0} → (List Placed → X → Type 0) → Place → Place → Option X → Type 0
+abbrev pub OptionalPart : {X : Type 0} → (List Placed → X → Type 0) → ReaderState → ReaderState → Option X → Type 0
 OptionalPart L old new None = Lacks L old new
 OptionalPart L old new (Some x) = Part L old new x
 
 -- whether the part was read
-abbrev pub FoundPart : (List Placed → Unit {0} → Type 0) → Place → Place → Bool → Type 0
+abbrev pub FoundPart : (List Placed → Unit {0} → Type 0) → ReaderState → ReaderState → Bool → Type 0
 FoundPart L old new false = Lacks L old new
 FoundPart L old new true = Part L old new tt
 
 -- The part was read as often as it comes next.
-pub record ManyParts {X : Type 0} (L : List Placed → X → Type 0) (old new : Place) (xs : List X) : Type 0 where
+pub record ManyParts {X : Type 0} (L : List Placed → X → Type 0) (old new : ReaderState) (xs : List X) : Type 0 where
   pub rows : List Placed
   pub took : Took old new rows
   pub says : many L rows xs
@@ -76,8 +76,8 @@ pub record ManyParts {X : Type 0} (L : List Placed → X → Type 0) (old new : 
   pub counts : Counts (left new)
 
 -- A line within the limits comes next that does not begin the part.
-pub record LineRefused {X : Type 0} (L : List Placed → X → Type 0) (old : Place) (at : ℕ) (out : Bool) : Type 0 where
-  pub before : Place
+pub record LineRefused {X : Type 0} (L : List Placed → X → Type 0) (old : ReaderState) (at : ℕ) (out : Bool) : Type 0 where
+  pub before : ReaderState
   pub line : List ℕ
   pub took : Took old before []
   pub first : FirstLine (left before) line
@@ -88,8 +88,8 @@ pub record LineRefused {X : Type 0} (L : List Placed → X → Type 0) (old : Pl
   pub refused : Refuses L (left before)
 
 -- No whole line comes next, and no limit is passed.
-pub record LineLacks (old : Place) (at : ℕ) : Type 0 where
-  pub before : Place
+pub record LineLacks (old : ReaderState) (at : ℕ) : Type 0 where
+  pub before : ReaderState
   pub took : Took old before []
   pub fits : LineFits before.at (left before)
   pub no_feed : Contains (left before) 10 → ⊥
@@ -97,8 +97,8 @@ pub record LineLacks (old : Place) (at : ℕ) : Type 0 where
 
 -- The next line opens data which the end of the input cuts off, and no limit is passed: what is left is no row yet, and
 -- would begin with one if some more bytes followed.
-pub record DataLacks (old : Place) (at : ℕ) : Type 0 where
-  pub before : Place
+pub record DataLacks (old : ReaderState) (at : ℕ) : Type 0 where
+  pub before : ReaderState
   pub line : List ℕ
   pub next : List ℕ
   pub more : List ℕ
@@ -118,7 +118,7 @@ pub record Position : Type 0 where
   pub left : List ℕ
 
 -- the position of a reader at this place, with `done` promised or not
-abbrev pub position : Place → Bool → Position
+abbrev pub position : ReaderState → Bool → Position
 position place promised = record { at = place.at; promised = promised; left = left place }
 
 -- The line is of this word, and its text says this.

@@ -1,8 +1,8 @@
 //! Rows of a stream over a window of the source, and the parts of commands that are rows or data (git-fast-import(1),
 //! input format).
-//! Stands on `swh_base`, `swh_pieces`, `swh_outside`, `swh_fastlex`, `swh_fastgrammar` and `swh_fastlines`.
-//! Callers may rely on: a line is looked at before it is taken; a part is read exactly where the grammar has it, and where
-//! it is not there the reason and its place are told, a limit before the grammar for the same bytes.
+//! Stands on `swh_base`, `swh_outside`, `swh_fastlex`, `swh_fastgrammar` and `swh_fastlines`.
+//! Callers may rely on: a line is looked at before it is taken; a part is read exactly where the grammar has it, and
+//! where it is not there the reason and its place are told, a limit before the grammar for the same bytes.
 #![tactic(auto)]
 
 mod ahead;

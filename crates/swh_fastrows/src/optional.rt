@@ -12,10 +12,9 @@ use crate::fail::ReadFail;
 use crate::part_lines::{commit_line, encoding_line, mark_line, person_line};
 use crate::refusing::{peek, refusal};
 use crate::row_source::RowReader;
-use swh_base::Bytes;
+use swh_base::{Bytes, behind};
 use swh_fastgrammar::{At, Commitish};
 use swh_outside::Source;
-use swh_pieces::behind;
 
 /// The mark, where a line `mark` comes next.
 pub fn optional_mark<S: Source>(rows: &mut RowReader<S>) -> Result<Option<u64>, ReadFail>

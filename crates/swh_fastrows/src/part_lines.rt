@@ -5,11 +5,10 @@ ghost use Rattle.swh_fastrows.specs.Places.{SaysLine, NeverLine};
 ghost use Rattle.swh_fastgrammar.specs.Word.{IsMark, NamesPerson, NamesEncoding, NamesCommit};
 
 use std::alloc::{AllocError, Global};
-use swh_base::is_person;
+use swh_base::{behind, is_person};
 use swh_fastgrammar::Commitish;
 use swh_fastlex::Word;
 use swh_fastlines::{commit_word, is_encoding, mark_of};
-use swh_pieces::behind;
 
 /// The mark that a line `mark` gives.
 pub fn mark_line(line: &[u8]) -> Option<u64>

@@ -42,9 +42,9 @@ pub struct RowReader<S: Source> {
 }
 
 impl<S: Source> Model for RowReader<S> {
-    ghost use Rattle.swh_fastrows.specs.Places.{Place};
+    ghost use Rattle.swh_fastrows.specs.Places.{ReaderState};
 
-    ghost Value = { Place };
+    ghost Value = { ReaderState };
 
     ghost use Rattle.std.specs.Prelude.{◌++◌, length};
     ghost use Rattle.swh_fastrows.specs.Held.{Holds};

@@ -1,8 +1,8 @@
-//! Folders by their numbers, which trees share: what the changes of a commit (git-fast-import(1)) make of them, and those
-//! that are no longer needed dropped. None knows of ids that are computed, or of objects.
+//! Folders by their numbers, which trees share: what the changes of a commit (git-fast-import(1)) make of them, and
+//! those that are no longer needed dropped. None knows of ids that are computed, or of objects.
 //! Stands on `swh_base`, `swh_fastlex`, whose paths they are, `swh_entries` and `swh_forest`, which has the folders.
-//! Callers may rely on: a change makes of a root what it makes of a map from paths; the folders below a base stay; after
-//! a drop each folder from the base on is one of the root's, and there is a drop before more folders, or entries,
+//! Callers may rely on: a change makes of a root what it makes of a map from paths; the folders below a base stay;
+//! after a drop each folder from the base on is one of the root's, and there is a drop before more folders, or entries,
 //! stand than may.
 #![tactic(auto)]
 

@@ -1,6 +1,7 @@
 -- What stands at a path after something is put at another.
 use Rattle.std.proofs.Common.{◌≡◌, ◌≢◌, ℕ, Bool, true, false, cond, List, [], ◌∷◌, ◌++◌, None, refl, sym, ap, ◌∙◌}
 use Rattle.std.proofs.lemmas.Slice.Eq.{bytes_eq-Decides}
+use Rattle.std.proofs.lemmas.Bool.{false_from_ne_true as not_true}
 use Rattle.swh_entries.specs.declared.entry.Leaf.{Leaf}
 use Rattle.swh_forest.specs.Forest.{Forest, Bare, File, Folder, Stands, Nothing, IsFile, IsFolder, beside, child_at, without, key, inserted, put, folder, forest, step, found, graft, leaf_of, at}
 use Rattle.swh_entries.specs.Keys.{is_before}
@@ -11,10 +12,6 @@ same_is a b h = (bytes_eq-Decides a b).0 h
 
 pub same_self : (a : List ℕ) → same a a ≡ true
 same_self a = (bytes_eq-Decides a a).1 refl
-
-not_true : (b : Bool) → (b ≡ true → ⊥) → b ≡ false
-not_true true h = absurd (h refl)
-not_true false h = refl
 
 pub not_same : (a b : List ℕ) → a ≢ b → same a b ≡ false
 not_same a b h = not_true (same a b) (λ e. h (same_is a b e))

@@ -14,12 +14,8 @@ use Rattle.swh_entries.specs.Keys.{is_before}
 use Rattle.swh_forest.specs.PathMap.{same}
 use Rattle.swh_forest.specs.Sound.{Follows, IsSound, IsSoundHere}
 use Rattle.swh_base.specs.Directory.{IsEntryName}
+use Rattle.swh_base.proofs.Elementary.{less_from}
 use Rattle.swh_forest.proofs.Grafts.{same_is, same_self, without-same, without-other, inserted-other}
-
-less_from : (o : Ordering) → is_lt o ≡ true → o ≡ Less
-less_from Less e = refl
-less_from Equal e = absurd cc
-less_from Greater e = absurd cc
 
 pub before-trans : (a b c : List ℕ) → is_before a b ≡ true → is_before b c ≡ true → is_before a c ≡ true
 before-trans a b c p q = ap is_lt (nat_list_cmp_total.trans a b c (less_from (slice_cmp nat_cmp a b) p) (less_from (slice_cmp nat_cmp b c) q))

@@ -13,8 +13,8 @@ ghost use Rattle.swh_forest.specs.Arena.{stands_of, tree_at, parts_of, IsIn, Gro
 
 use crate::arena::{put, step};
 use std::alloc::{AllocError, Global};
+use swh_base::split_at_byte;
 use swh_entries::{Child, Names, Packed};
-use swh_pieces::split_at_byte;
 
 /// What stands at this path.
 pub fn find(

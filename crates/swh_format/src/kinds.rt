@@ -1,5 +1,5 @@
-//! The kinds of records, each one list of fields, and the bytes that stand for kinds: in a record of the ledger, and in the
-//! store before an object's body. specs/Kinds.antt says the same.
+//! The kinds of records, each one list of fields, and the bytes that stand for kinds: in a record of the ledger, and in
+//! the store before an object's body. specs/Kinds.antt says the same.
 ghost use Rattle.std.specs.Prelude.{◌≡◌, ◌↔◌, IsTrue};
 ghost use Rattle.swh_format.specs.Kinds.{byte_of, choices, payload_fields};
 ghost use Rattle.swh_format.specs.Fields.{IsAmong};

@@ -6,9 +6,7 @@ use Rattle.std.proofs.lemmas.Result.{err_from_is_err_and}
 use Rattle.std.specs.List.{AllByRecursion}
 use Rattle.std.proofs.lemmas.List.Elements.{Contains-append_right}
 use Rattle.swh_base.specs.Reach.{IsWalk, Reaches}
-
-pub none_in : {X : Type 0} → (x : X) → Contains [] x → ⊥
-none_in x (k, less, is) = absurd (omega (arith, less))
+use Rattle.swh_base.proofs.Elementary.{none_in}
 
 pub in_first : {X : Type 0} → (x : X) (xs : List X) → Contains (x ∷ xs) x
 in_first x xs = (0, omega arith, refl)
@@ -19,9 +17,6 @@ in_rest x xs y (k, less, is) = (suc k, omega (arith, less), is)
 pub in_cases : {X : Type 0} → (x : X) (xs : List X) (y : X) → Contains (x ∷ xs) y → (x ≡ y) ⊎ Contains xs y
 in_cases x xs y (zero, less, is) = inl is
 in_cases x xs y (suc k, less, is) = inr (k, omega (arith, less), is)
-
-pub only : {X : Type 0} → (x y : X) → Contains (x ∷ []) y → x ≡ y
-only x y h = elim (in_cases x [] y h) [ inl is ↦ is | inr none ↦ absurd (none_in y none) ]
 
 pub in_middle : {X : Type 0} → (front : List X) (x : X) (rest : List X) → Contains (front ++ x ∷ rest) x
 in_middle front x rest = Contains-append_right front (x ∷ rest) x (in_first x rest)

@@ -10,6 +10,7 @@ use Rattle.swh_base.specs.declared.name.Name.{Name}
 use Rattle.swh_base.specs.Reach.{IsAmong}
 use Rattle.swh_base.specs.Revision.{revision_name}
 use Rattle.swh_base.proofs.DirectoryLemmas.{all-push}
+use Rattle.swh_base.proofs.Elementary.{none_in}
 use Rattle.swh_model.specs.Archive.{Bodies, body_of, IsHeld}
 use Rattle.swh_graph.specs.Answer.{Refuses}
 use Rattle.swh_graph.specs.Holding.{IsNotHeld}
@@ -17,7 +18,7 @@ use Rattle.swh_graph.specs.Log.{HasParents, HaveParents, ComesNext, AreNext, IsL
 use Rattle.swh_graph.specs.Met.{MeetsOne, MeetsAll}
 use Rattle.swh_graph.specs.declared.fault.GraphFault.{GraphFault}
 use Rattle.swh_graph.specs.declared.fault.GraphFault.TheVariants.{NotHeld, NoPath, Memory}
-use Rattle.swh_graph.proofs.Lists.{none_in, in_first, in_rest, in_cases, in_middle}
+use Rattle.swh_graph.proofs.Lists.{in_first, in_rest, in_cases, in_middle}
 use Rattle.swh_graph.proofs.OneLog.{one_list_of_parents}
 
 -- ---- names that are met

@@ -8,11 +8,12 @@ use Rattle.swh_base.specs.declared.name.Name.{Name}
 use Rattle.swh_base.specs.Directory.{DirectoryEntry, IsDirectory, AreEntries}
 use Rattle.swh_base.proofs.DirectoryLemmas.{one_listing_lem}
 use Rattle.swh_base.proofs.Splits.{first_split}
+use Rattle.swh_base.proofs.Elementary.{none_in}
 use Rattle.swh_model.specs.Archive.{Bodies, body_of}
 use Rattle.swh_graph.specs.Answer.{GraphAnswer, Found, Missing, Nowhere}
 use Rattle.swh_graph.specs.Holding.{HoldsDirectory}
 use Rattle.swh_graph.specs.Path.{target_of, AreComponents, HasEntry, Follows, LeadsNowhere, IsEntryAnswer, IsPathAnswer}
-use Rattle.swh_graph.proofs.Lists.{none_in, in_cases, in_middle, all_of, same_some, not_none}
+use Rattle.swh_graph.proofs.Lists.{in_cases, in_middle, all_of, same_some, not_none}
 
 -- ---- components
 

@@ -9,10 +9,11 @@ use Rattle.std.specs.Cmp.{tied_itself}
 use Rattle.std.specs.Ordering.{ordering_reverse}
 use Rattle.swh_base.specs.declared.name.Name.{Name}
 use Rattle.swh_base.specs.Name.{name_cmp, name_cmp_total, name_cmp-IsAntisymmetric}
+use Rattle.swh_base.proofs.Elementary.{none_in}
 use Rattle.swh_model.specs.Archive.{Bodies, body_of}
 use Rattle.swh_graph.specs.Answer.{GraphAnswer, Found, Missing, Nowhere}
 use Rattle.swh_graph.specs.Reached.{IsReach, IsReachGap, IsReachAnswer}
-use Rattle.swh_graph.proofs.Lists.{none_in, in_first, in_rest, in_cases, all_of, not_none}
+use Rattle.swh_graph.proofs.Lists.{in_first, in_rest, in_cases, all_of, not_none}
 
 -- ---- ascending lists
 

@@ -13,11 +13,12 @@ use Rattle.swh_base.specs.Release.{Release, IsRelease}
 use Rattle.swh_base.specs.Snapshot.{BranchTarget, ToObject, ToBranch, SnapshotBranch, AreBranches, BranchIsBefore, IsSnapshot}
 use Rattle.swh_base.proofs.RevisionLemmas.{one_release}
 use Rattle.swh_base.proofs.SnapshotLemmas.{one_snapshot}
+use Rattle.swh_base.proofs.Elementary.{none_in}
 use Rattle.swh_model.specs.Archive.{Bodies, body_of}
 use Rattle.swh_graph.specs.Holding.{HoldsRelease, HoldsSnapshot}
 use Rattle.swh_graph.specs.Path.{directory_name}
 use Rattle.swh_graph.specs.Root.{IsAlias, BranchLeads, HasTree, HasObject, HasHead, LeadsOn, HasRootOf, IsRoot, IsRootGap}
-use Rattle.swh_graph.proofs.Lists.{none_in, in_cases, all_of, same_some, not_none, one_end}
+use Rattle.swh_graph.proofs.Lists.{in_cases, all_of, same_some, not_none, one_end}
 use Rattle.swh_graph.proofs.OneLog.{one_held_revision}
 
 -- ---- branches

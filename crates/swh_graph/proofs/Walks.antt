@@ -18,13 +18,14 @@ use Rattle.swh_base.specs.Name.{name_cmp, name_cmp_total, name_cmp-IsAntisymmetr
 use Rattle.swh_base.specs.contracts.name.NameOrd.TheImpl.{cmp-value}
 use Rattle.swh_base.specs.Reach.{IsHeldIn, IsChildIn, IsWalk, ReachesIn}
 use Rattle.swh_base.proofs.Reaches.{reaches-next}
+use Rattle.swh_base.proofs.Elementary.{none_in}
 use Rattle.swh_closure.proofs.Order.{order_is}
 use Rattle.swh_model.specs.Archive.{Bodies, body_of, IsHeld, Reaches, IsGraphOf}
 use Rattle.swh_model.proofs.Graphs.{reaches-same}
 use Rattle.swh_graph.specs.Met.{MeetsOne, MeetsAll, MeetsChildren}
 use Rattle.swh_graph.specs.Reached.{IsReach, IsReachGap}
 use Rattle.swh_graph.specs.Resolve.{IsFirstMissing}
-use Rattle.swh_graph.proofs.Lists.{none_in, in_cases, in_middle, all_of, not_none}
+use Rattle.swh_graph.proofs.Lists.{in_cases, in_middle, all_of, not_none}
 use Rattle.swh_graph.proofs.Logs.{all_extends, extends_in, one_in, one_from, met_in, met_each}
 
 -- ---- each name once

@@ -4,13 +4,14 @@ use Rattle.std.specs.Prelude.{Contains, ◌≢◌}
 use Rattle.std.proofs.lemmas.List.{append-nil}
 use Rattle.swh_base.specs.declared.name.Name.{Name}
 use Rattle.swh_base.specs.Directory.{DirectoryEntry}
+use Rattle.swh_base.proofs.Elementary.{none_in}
 use Rattle.swh_model.specs.Archive.{Bodies}
 use Rattle.swh_graph.specs.Answer.{Refuses}
 use Rattle.swh_graph.specs.Path.{target_of, AreComponents, HasEntry, Follows, Passes, IsEntryAt, IsPathGap, LeadsNowhere, IsPathAnswer}
 use Rattle.swh_graph.specs.Way.{StepFails, Arrives}
 use Rattle.swh_graph.specs.declared.fault.GraphFault.{GraphFault}
 use Rattle.swh_graph.specs.declared.fault.GraphFault.TheVariants.{NotHeld, NoPath, Memory}
-use Rattle.swh_graph.proofs.Lists.{none_in, in_cases, same_or_not}
+use Rattle.swh_graph.proofs.Lists.{in_cases, same_or_not}
 use Rattle.swh_graph.specs.Holding.{HoldsDirectory}
 use Rattle.swh_graph.proofs.OnePath.{slashed, ArePlain, one_held_directory}
 

@@ -1,6 +1,6 @@
-//! Calls over the graph of an archive: the log of a revision, the entry at a path, what a SWHID resolves to, and all that
-//! is reached from a name.
-//! Stands on `swh_base`, `swh_pieces`, `swh_model`, `swh_dirfmt`, `swh_revfmt`, `swh_snpfmt`, `swh_swhid` and `swh_closure`.
+//! Calls over the graph of an archive: the log of a revision, the entry at a path, what a SWHID resolves to, and all
+//! that is reached from a name.
+//! Stands on `swh_base`, `swh_model`, `swh_dirfmt`, `swh_revfmt`, `swh_snpfmt`, `swh_swhid` and `swh_closure`.
 //! Callers may rely on: each answer is the one that the archive determines; a refusal names the first name that is not
 //! held, in the call's order, or the component of a path that leads nowhere.
 #![tactic(auto)]

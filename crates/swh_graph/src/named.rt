@@ -4,8 +4,8 @@ ghost use Rattle.swh_base.specs.Directory.{IsMode};
 ghost use Rattle.swh_dirfmt.specs.Entries.{entry_of};
 ghost use Rattle.swh_graph.specs.Named.{TakesEntry, HasNoEntry, IsNamedIn, HasNoneNamed};
 
+use swh_base::split_at_byte;
 use swh_dirfmt::SpelledEntry;
-use swh_pieces::split_at_byte;
 
 /// The mode that an entry's digits write.
 fn mode_of(digits: &[u8]) -> u32

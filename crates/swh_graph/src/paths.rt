@@ -9,10 +9,9 @@ use crate::fault::GraphFault;
 use crate::named::find_entry;
 use crate::reading::directory_body;
 use std::alloc::Global;
-use swh_base::{Bytes, Kind, Memory, Name};
+use swh_base::{Bytes, Kind, Memory, Name, split_at_byte};
 use swh_dirfmt::{DirEntry, SpelledEntry};
 use swh_model::Look;
-use swh_pieces::split_at_byte;
 
 /// The entry to which components lead, and the number of the last of them, from 0.
 #[derive(Clone, Copy)]

@@ -5,9 +5,9 @@ use Rattle.std.proofs.lemmas.Str.{IsUtf8-from_ascii}
 use Rattle.std.proofs.lemmas.Str.Ascii.{IsAscii-cons, IsAscii-nil}
 use Rattle.httparse.specs.Grammar.{is_token_byte, is_uri_byte, AllPass, IsToken, crlf, print_blank, RequestHead, ReadsRequest, HasNoRequest, NeverHasRequest, MayBecomeRequest, EndsInTarget}
 use Rattle.httparse.proofs.GrammarLemmas.{cons-append}
-use Rattle.swh_http.specs.declared.place.Place.{Place}
-use Rattle.swh_http.specs.declared.place.Place.TheVariants.{Blank, BlankEnd, Method, Space, Target, Version, Minor, LineEnd as AtLineEnd, Feed, Line, LastFeed, Name, Value, Whole, Over, Broken}
-use Rattle.swh_http.specs.Place.{advance_all, place_of, MayContinue}
+use Rattle.swh_http.specs.declared.head_state.HeadState.{HeadState}
+use Rattle.swh_http.specs.declared.head_state.HeadState.TheVariants.{Blank, BlankEnd, Method, Space, Target, Version, Minor, LineEnd as AtLineEnd, Feed, Line, LastFeed, Name, Value, Whole, Over, Broken}
+use Rattle.swh_http.specs.HeadState.{advance_all, place_of, MayContinue}
 use Rattle.swh_http.proofs.Follow.{advance_all-append, broken, one-on, blank-leads, method-leads, target-starts, target-stays, pass-head, pass-tail, place_of-head, place_of-more}
 use Rattle.swh_http.proofs.Stand.{EndsLineEnd, EndsMinor, EndsVersion, HasTarget, IsWhole, Stands, stands, line-here, end-feed, feed-line, minor-of, name-colon, value-feed, whole-of, blank-push}
 
@@ -21,18 +21,18 @@ begins-head bytes h (b ∷ bs) reads = inr (ap place_of reads.1 ∙ place_of-mor
 
 pub no-request : (bytes : List ℕ) → MayContinue (place_of bytes) → HasNoRequest bytes
 no-request bytes goes h rest reads =
-    let P : Place → Type 0 = λ p. MayContinue p in
+    let P : HeadState → Type 0 = λ p. MayContinue p in
     elim (begins-head bytes h rest reads) [ inl whole ↦ subst P whole goes | inr over ↦ subst P over goes ]
 
 pub never-request : (bytes : List ℕ) → place_of bytes ≡ Broken → NeverHasRequest bytes
 never-request bytes is more h rest reads =
     let stays : place_of (bytes ++ more) ≡ Broken =
-    advance_all-append [] Blank bytes more ∙ ap (λ (p : Place). advance_all bytes p more) is ∙ broken more bytes in
+    advance_all-append [] Blank bytes more ∙ ap (λ (p : HeadState). advance_all bytes p more) is ∙ broken more bytes in
     elim (begins-head (bytes ++ more) h rest reads) [ inl whole ↦ cc | inr over ↦ cc ]
 
 -- the head that is whole
 pub whole-head : (bytes : List ℕ) → place_of bytes ≡ Whole → IsWhole bytes
-whole-head bytes is = let P : Place → Type 0 = λ p. Stands p bytes in subst P is (stands bytes)
+whole-head bytes is = let P : HeadState → Type 0 = λ p. Stands p bytes in subst P is (stands bytes)
 
 -- ---- a target
 
@@ -45,7 +45,7 @@ target-goes before from (b ∷ bs) all =
 space-goes : (before bs : List ℕ) → AllPass is_uri_byte bs → MayContinue (advance_all before Space bs)
 space-goes before [] all = tt
 space-goes before (b ∷ bs) all =
-    let P : Place → Type 0 = λ p. MayContinue p in
+    let P : HeadState → Type 0 = λ p. MayContinue p in
     subst P (sym (one-on before Space b bs (Target (length before)) (Target (length before)) (target-starts before b (pass-head is_uri_byte b bs all))
     (target-goes (before ++ b ∷ []) (length before) bs (pass-tail is_uri_byte b bs all)))) tt
 
@@ -55,15 +55,15 @@ target-goes-on bytes (blank, method, target, token, all, text) =
     let there : place_of front ≡ Space = blank-leads blank (method ++ 32 ∷ []) Space (method-leads method [] Space token (λ before. refl)) [] in
     let split : bytes ≡ front ++ target = text ∙ regrouped (print_blank blank) method target in
     let place : place_of bytes ≡ advance_all front Space target =
-    ap place_of split ∙ advance_all-append [] Blank front target ∙ ap (λ (p : Place). advance_all front p target) there in
-    let P : Place → Type 0 = λ p. MayContinue p in
+    ap place_of split ∙ advance_all-append [] Blank front target ∙ ap (λ (p : HeadState). advance_all front p target) there in
+    let P : HeadState → Type 0 = λ p. MayContinue p in
     subst P (sym place) (space-goes front target all)
   where
     regrouped : (a b c : List ℕ) → (a ++ b) ++ 32 ∷ c ≡ (a ++ (b ++ 32 ∷ [])) ++ c
     regrouped a b c = simp (append_assoc, cons-append)
 
 pub no-target : (bytes : List ℕ) → place_of bytes ≡ Broken → EndsInTarget bytes → ⊥
-no-target bytes is target = let P : Place → Type 0 = λ p. MayContinue p in subst P is (target-goes-on bytes target)
+no-target bytes is target = let P : HeadState → Type 0 = λ p. MayContinue p in subst P is (target-goes-on bytes target)
 
 -- ---- a request may follow
 
@@ -126,7 +126,7 @@ blank-end-ends t h =
     let P : List ℕ → Type 0 = λ x. IsWhole x in
     (10 ∷ rest.0, subst P (append_assoc t (10 ∷ []) rest.0) rest.1)
 
-may-be : (p : Place) (t : List ℕ) → MayContinue p → Stands p t → MayBecomeRequest t
+may-be : (p : HeadState) (t : List ℕ) → MayContinue p → Stands p t → MayBecomeRequest t
 may-be Blank t goes h = let rest = blank-ends t h in may-by t rest.0 rest.1
 may-be BlankEnd t goes h = let rest = blank-end-ends t h in may-by t rest.0 rest.1
 may-be Method t goes h = let rest = method-ends t h in may-by t rest.0 rest.1

@@ -9,11 +9,11 @@ use Rattle.std.proofs.Math.Dec.{eqb}
 use Rattle.std.proofs.Math.Seq.{append_snoc, drop-append_seam}
 use Rattle.httparse.specs.Grammar.{is_token_byte, is_uri_byte, is_value_byte, AllPass, IsToken, LineEnd, crlf, lf, print_end, print_blank, print_version, Field, IsField, print_field, print_section, RequestHead, IsRequestHead, print_request}
 use Rattle.httparse.proofs.GrammarLemmas.{print_request-append}
-use Rattle.swh_http.specs.declared.place.Place.{Place}
-use Rattle.swh_http.specs.declared.place.Place.TheVariants.{Blank, Method, Space, Target, Version, Minor, LineEnd as AtLineEnd, Line, Name, Value, Whole, Over, Broken}
-use Rattle.swh_http.specs.Place.{advance, advance_all, place_of}
+use Rattle.swh_http.specs.declared.head_state.HeadState.{HeadState}
+use Rattle.swh_http.specs.declared.head_state.HeadState.TheVariants.{Blank, Method, Space, Target, Version, Minor, LineEnd as AtLineEnd, Line, Name, Value, Whole, Over, Broken}
+use Rattle.swh_http.specs.HeadState.{advance, advance_all, place_of}
 
-pub advance_all-append : (before : List ℕ) (p : Place) (xs ys : List ℕ)
+pub advance_all-append : (before : List ℕ) (p : HeadState) (xs ys : List ℕ)
     → advance_all before p (xs ++ ys) ≡ advance_all (before ++ xs) (advance_all before p xs) ys
 advance_all-append before p [] ys = ap (λ (b : List ℕ). advance_all b p ys) (sym (append-nil before))
 advance_all-append before p (x ∷ xs) ys =
@@ -39,13 +39,13 @@ unfolding is_token_byte
 token-fails = (refl, refl, refl, refl)
 
 -- from a place these bytes lead to another, whatever was before them
-abbrev pub Leads : Place → List ℕ → Place → Type 0
+abbrev pub Leads : HeadState → List ℕ → HeadState → Type 0
 Leads p bytes q = (before : List ℕ) → advance_all before p bytes ≡ q
 
 -- one byte on
-pub one-on : (before : List ℕ) (p : Place) (b : ℕ) (bs : List ℕ) (r q : Place)
+pub one-on : (before : List ℕ) (p : HeadState) (b : ℕ) (bs : List ℕ) (r q : HeadState)
     → advance before p b ≡ r → advance_all (before ++ b ∷ []) r bs ≡ q → advance_all before p (b ∷ bs) ≡ q
-one-on before p b bs r q e h = let P : Place → Type 0 = λ x. advance_all (before ++ b ∷ []) x bs ≡ q in subst P (sym e) h
+one-on before p b bs r q e h = let P : HeadState → Type 0 = λ x. advance_all (before ++ b ∷ []) x bs ≡ q in subst P (sym e) h
 
 pub over : (bytes : List ℕ) → Leads Over bytes Over
 over [] before = refl
@@ -55,12 +55,12 @@ pub broken : (bytes : List ℕ) → Leads Broken bytes Broken
 broken [] before = refl
 broken (b ∷ bs) before = broken bs (before ++ b ∷ [])
 
-pub blank-leads : (ends : List LineEnd) (more : List ℕ) (q : Place) → Leads Blank more q → Leads Blank (print_blank ends ++ more) q
+pub blank-leads : (ends : List LineEnd) (more : List ℕ) (q : HeadState) → Leads Blank more q → Leads Blank (print_blank ends ++ more) q
 blank-leads [] more q next before = next before
 blank-leads (crlf ∷ ends) more q next before = blank-leads ends more q next _
 blank-leads (lf ∷ ends) more q next before = blank-leads ends more q next _
 
-token-leads : (p end : Place) (stop : ℕ) (bytes more : List ℕ) (q : Place)
+token-leads : (p end : HeadState) (stop : ℕ) (bytes more : List ℕ) (q : HeadState)
     → ((before : List ℕ) (b : ℕ) → is_token_byte b ≡ true → advance before p b ≡ p)
     → ((before : List ℕ) → advance before p stop ≡ end)
     → AllPass is_token_byte bytes → Leads end more q → Leads p (bytes ++ stop ∷ more) q
@@ -89,7 +89,7 @@ token-starts b before token =
     let no_return = apart is_token_byte b 13 token token-fails.1 in
     (rw (no_feed, no_return, token) refl, rw (no_feed, no_return, token) refl)
 
-pub method-leads : (method more : List ℕ) (q : Place) → IsToken method → Leads Space more q → Leads Blank (method ++ 32 ∷ more) q
+pub method-leads : (method more : List ℕ) (q : HeadState) → IsToken method → Leads Space more q → Leads Blank (method ++ 32 ∷ more) q
 method-leads [] more q token next before = absurd (omega (arith, token.0))
 method-leads (b ∷ bs) more q token next before =
     one-on before Blank b (bs ++ 32 ∷ more) Method q (token-starts b before (pass-head is_token_byte b bs token.1)).0
@@ -107,7 +107,7 @@ pub target-starts : (before : List ℕ) (b : ℕ) → is_uri_byte b ≡ true →
 target-starts before b is = rw is refl
 
 -- in the target, of which some bytes are there
-in-target : (front target more : List ℕ) (rest : List ℕ) (q : Place) → AllPass is_uri_byte rest → IsUtf8 (target ++ rest)
+in-target : (front target more : List ℕ) (rest : List ℕ) (q : HeadState) → AllPass is_uri_byte rest → IsUtf8 (target ++ rest)
     → Leads (Version 0) more q → advance_all (front ++ target) (Target (length front)) (rest ++ 32 ∷ more) ≡ q
 in-target front target more [] q all text next =
     let P : List ℕ → Type 0 = λ bs. IsUtf8 bs in
@@ -122,30 +122,30 @@ in-target front target more (b ∷ bs) q all text next =
     let Q : List ℕ → Type 0 = λ x. advance_all x (Target (length front)) (bs ++ 32 ∷ more) ≡ q in
     one-on (front ++ target) (Target (length front)) b (bs ++ 32 ∷ more) (Target (length front)) q (target-stays (front ++ target) (length front) b first) (subst Q (sym seam) rest)
 
-target-leads : (target more : List ℕ) (q : Place) → 0 < length target → AllPass is_uri_byte target → IsUtf8 target
+target-leads : (target more : List ℕ) (q : HeadState) → 0 < length target → AllPass is_uri_byte target → IsUtf8 target
     → Leads (Version 0) more q → Leads Space (target ++ 32 ∷ more) q
 target-leads [] more q some all text next before = absurd (omega (arith, some))
 target-leads (b ∷ bs) more q some all text next before =
     one-on before Space b (bs ++ 32 ∷ more) (Target (length before)) q (target-starts before b (pass-head is_uri_byte b bs all))
     (in-target before (b ∷ []) more bs q (pass-tail is_uri_byte b bs all) text next)
 
-minor-leads : (minor : ℕ) (more : List ℕ) (q : Place) → minor ≤ 1 → Leads AtLineEnd more q → Leads Minor ((48 + minor) ∷ more) q
+minor-leads : (minor : ℕ) (more : List ℕ) (q : HeadState) → minor ≤ 1 → Leads AtLineEnd more q → Leads Minor ((48 + minor) ∷ more) q
 minor-leads zero more q few next before = next _
 minor-leads (suc zero) more q few next before = next _
 minor-leads (suc (suc n)) more q few next before = absurd (omega (arith, few))
 
-version-leads : (minor : ℕ) (more : List ℕ) (q : Place) → minor ≤ 1 → Leads AtLineEnd more q
+version-leads : (minor : ℕ) (more : List ℕ) (q : HeadState) → minor ≤ 1 → Leads AtLineEnd more q
     → Leads (Version 0) (print_version minor ++ more) q
 version-leads minor more q few next before = minor-leads minor more q few next _
 
-end-leads : (end : LineEnd) (more : List ℕ) (q : Place) → Leads Line more q → Leads AtLineEnd (print_end end ++ more) q
+end-leads : (end : LineEnd) (more : List ℕ) (q : HeadState) → Leads Line more q → Leads AtLineEnd (print_end end ++ more) q
 end-leads crlf more q next before = next _
 end-leads lf more q next before = next _
 
 value-stays : (before : List ℕ) (b : ℕ) → is_value_byte b ≡ true → advance before Value b ≡ Value
 value-stays before b is = rw is refl
 
-value-leads : (raw : List ℕ) (end : LineEnd) (more : List ℕ) (q : Place) → AllPass is_value_byte raw → Leads Line more q
+value-leads : (raw : List ℕ) (end : LineEnd) (more : List ℕ) (q : HeadState) → AllPass is_value_byte raw → Leads Line more q
     → Leads Value (raw ++ (print_end end ++ more)) q
 value-leads [] crlf more q all next before = next _
 value-leads [] lf more q all next before = next _
@@ -153,7 +153,7 @@ value-leads (b ∷ bs) end more q all next before =
     one-on before Value b (bs ++ (print_end end ++ more)) Value q (value-stays before b (pass-head is_value_byte b bs all))
     (value-leads bs end more q (pass-tail is_value_byte b bs all) next (before ++ b ∷ []))
 
-field-leads : (f : Field) (more : List ℕ) (q : Place) → IsField f → Leads Line more q → Leads Line (print_field f ++ more) q
+field-leads : (f : Field) (more : List ℕ) (q : HeadState) → IsField f → Leads Line more q → Leads Line (print_field f ++ more) q
 field-leads f more q good next before =
     let regroup : print_field f ++ more ≡ f.name ++ 58 ∷ (f.raw ++ (print_end f.end ++ more)) = regrouped f.name f.raw (print_end f.end) more in
     rw regroup (name-leads f.name f.raw f.end more q good.name good.raw next before)
@@ -161,7 +161,7 @@ field-leads f more q good next before =
     regrouped : (n r e m : List ℕ) → (n ++ 58 ∷ r ++ e) ++ m ≡ n ++ 58 ∷ (r ++ (e ++ m))
     regrouped n r e m = simp append_assoc
 
-    name-leads : (name raw : List ℕ) (end : LineEnd) (more : List ℕ) (q : Place) → IsToken name → AllPass is_value_byte raw
+    name-leads : (name raw : List ℕ) (end : LineEnd) (more : List ℕ) (q : HeadState) → IsToken name → AllPass is_value_byte raw
         → Leads Line more q → Leads Line (name ++ 58 ∷ (raw ++ (print_end end ++ more))) q
     name-leads [] raw end more q token all next before = absurd (omega (arith, token.0))
     name-leads (b ∷ bs) raw end more q token all next before =
@@ -169,7 +169,7 @@ field-leads f more q good next before =
         (token-leads Name Value 58 bs (raw ++ (print_end end ++ more)) q name-stays name-ends (pass-tail is_token_byte b bs token.1)
         (value-leads raw end more q all next) (before ++ b ∷ []))
 
-section-leads : (fields : List Field) (last : LineEnd) (more : List ℕ) (q : Place) → All IsField fields → Leads Whole more q
+section-leads : (fields : List Field) (last : LineEnd) (more : List ℕ) (q : HeadState) → All IsField fields → Leads Whole more q
     → Leads Line (print_section fields last ++ more) q
 section-leads [] crlf more q good next before = next _
 section-leads [] lf more q good next before = next _
@@ -180,7 +180,7 @@ section-leads (f ∷ fs) last more q good next before =
     regrouped : (a b c d : List ℕ) → ((a ++ b) ++ c) ++ d ≡ a ++ ((b ++ c) ++ d)
     regrouped a b c d = simp append_assoc
 
-head-leads : (h : RequestHead) (more : List ℕ) (q : Place) → IsRequestHead h → Leads Whole more q → place_of (print_request h ++ more) ≡ q
+head-leads : (h : RequestHead) (more : List ℕ) (q : HeadState) → IsRequestHead h → Leads Whole more q → place_of (print_request h ++ more) ≡ q
 head-leads h more q good next =
     let lines = print_section h.fields h.last ++ more in
     let end = print_end h.line_end ++ lines in

@@ -12,9 +12,9 @@ use Rattle.std.proofs.Math.Dec.{eqb}
 use Rattle.std.proofs.Math.Seq.{append_snoc, drop-append_seam}
 use Rattle.httparse.specs.Grammar.{is_token_byte, is_uri_byte, is_value_byte, AllPass, IsToken, LineEnd, crlf, lf, print_end, print_blank, Field, IsField, print_field, print_section, RequestHead, print_request, ReadsRequest}
 use Rattle.httparse.proofs.GrammarLemmas.{print_request-append, cons-append}
-use Rattle.swh_http.specs.declared.place.Place.{Place}
-use Rattle.swh_http.specs.declared.place.Place.TheVariants.{Blank, BlankEnd, Method, Space, Target, Version, Minor, LineEnd as AtLineEnd, Feed, Line, LastFeed, Name, Value, Whole, Over, Broken}
-use Rattle.swh_http.specs.Place.{advance, advance_all, place_of, version_byte}
+use Rattle.swh_http.specs.declared.head_state.HeadState.{HeadState}
+use Rattle.swh_http.specs.declared.head_state.HeadState.TheVariants.{Blank, BlankEnd, Method, Space, Target, Version, Minor, LineEnd as AtLineEnd, Feed, Line, LastFeed, Name, Value, Whole, Over, Broken}
+use Rattle.swh_http.specs.HeadState.{advance, advance_all, place_of, version_byte}
 
 -- ---- what may follow at each place
 
@@ -61,7 +61,7 @@ pub record HasTarget (t : List ℕ) (from : ℕ) : Type 0 where
   pub text : t ≡ (print_blank blank ++ (method ++ 32 ∷ [])) ++ target
   pub start : from ≡ length (print_blank blank ++ (method ++ 32 ∷ []))
 
-abbrev pub Stands : Place → List ℕ → Type 0
+abbrev pub Stands : HeadState → List ℕ → Type 0
 Stands Blank t = (es : List LineEnd) × (t ≡ print_blank es)
 Stands BlankEnd t = (es : List LineEnd) × (t ≡ print_blank es ++ 13 ∷ [])
 Stands Method t = (es : List LineEnd) × (m : List ℕ) × IsToken m × (t ≡ print_blank es ++ m)
@@ -201,7 +201,7 @@ step-blank t b h = elim (is-it b 10) [
     one-token : (b : ℕ) → is_token_byte b ≡ true → IsToken (b ∷ [])
     one-token b token = (omega arith, All-cons (λ x. IsTrue (is_token_byte x)) b [] token (All-nil (λ x. IsTrue (is_token_byte x))))
 
-step-feed : (t : List ℕ) (b : ℕ) (p q : Place) → (b ≡ 10 → Stands q (t ++ b ∷ []))
+step-feed : (t : List ℕ) (b : ℕ) (p q : HeadState) → (b ≡ 10 → Stands q (t ++ b ∷ []))
     → Stands (if b == 10 then q else Broken) (t ++ b ∷ [])
 unfolding Is
 step-feed t b p q h = elim (is-it b 10) [
@@ -213,7 +213,7 @@ step-blank-end : (t : List ℕ) (b : ℕ) → Stands BlankEnd t → Stands (adva
 step-blank-end t b h = step-feed t b BlankEnd Blank (λ feed. (h.0 ++ crlf ∷ [], rw (h.1, feed) (append_assoc (print_blank h.0) (13 ∷ []) (10 ∷ []) ∙ sym (blank-push h.0 crlf))))
 
 -- a token goes on, or ends with a byte
-step-token : (t : List ℕ) (b end : ℕ) (p q : Place) → (is_token_byte b ≡ true → Stands p (t ++ b ∷ []))
+step-token : (t : List ℕ) (b end : ℕ) (p q : HeadState) → (is_token_byte b ≡ true → Stands p (t ++ b ∷ []))
     → (b ≡ end → Stands q (t ++ b ∷ []))
     → Stands (if is_token_byte b then p else (if b == end then q else Broken)) (t ++ b ∷ [])
 unfolding Is
@@ -305,7 +305,7 @@ step-minor t b h = elim (is-it b 48) [
 ]
 
 -- a line feed and a carriage return lead on
-step-end : (t : List ℕ) (b : ℕ) (p q : Place) (last : Place) → (b ≡ 10 → Stands p (t ++ b ∷ [])) → (b ≡ 13 → Stands q (t ++ b ∷ []))
+step-end : (t : List ℕ) (b : ℕ) (p q : HeadState) (last : HeadState) → (b ≡ 10 → Stands p (t ++ b ∷ [])) → (b ≡ 13 → Stands q (t ++ b ∷ []))
     → (eqb b 10 ≡ false → eqb b 13 ≡ false → Stands last (t ++ b ∷ []))
     → Stands (if b == 10 then p else (if b == 13 then q else last)) (t ++ b ∷ [])
 unfolding Is
@@ -358,7 +358,7 @@ step-value t b h = elim (test-is (is_value_byte b)) [
       (λ _ _. tt))
 ]
 
-pub step : (p : Place) (t : List ℕ) (b : ℕ) → Stands p t → Stands (advance t p b) (t ++ b ∷ [])
+pub step : (p : HeadState) (t : List ℕ) (b : ℕ) → Stands p t → Stands (advance t p b) (t ++ b ∷ [])
 step Blank t b h = step-blank t b h
 step BlankEnd t b h = step-blank-end t b h
 step Method t b h = step-method t b h
@@ -376,7 +376,7 @@ step Whole t b h = tt
 step Over t b h = tt
 step Broken t b h = tt
 
-steps : (p : Place) (t bytes : List ℕ) → Stands p t → Stands (advance_all t p bytes) (t ++ bytes)
+steps : (p : HeadState) (t bytes : List ℕ) → Stands p t → Stands (advance_all t p bytes) (t ++ bytes)
 steps p t [] h = let P : List ℕ → Type 0 = λ x. Stands p x in subst P (sym (append-nil t)) h
 steps p t (b ∷ bs) h =
     let P : List ℕ → Type 0 = λ x. Stands (advance_all (t ++ b ∷ []) (advance t p b) bs) x in

@@ -10,9 +10,9 @@ use Rattle.swh_base.specs.Limits.{body_limit}
 use Rattle.swh_base.specs.declared.request.Request.{Request}
 use Rattle.swh_http.specs.declared.ask.Ask.{Ask}
 use Rattle.swh_http.specs.declared.ask.Ask.TheVariants.{Request as Asked, Refused}
-use Rattle.swh_http.specs.declared.place.Place.{Place}
-use Rattle.swh_http.specs.declared.place.Place.TheVariants.{Blank, BlankEnd, Method, Space, Target, Version, Minor, LineEnd as AtLineEnd, Feed, Line, LastFeed, Name, Value, Whole, Over, Broken}
-use Rattle.swh_http.specs.Place.{version_byte, advance, advance_all, place_of, MayContinue, StartsWithin}
+use Rattle.swh_http.specs.declared.head_state.HeadState.{HeadState}
+use Rattle.swh_http.specs.declared.head_state.HeadState.TheVariants.{Blank, BlankEnd, Method, Space, Target, Version, Minor, LineEnd as AtLineEnd, Feed, Line, LastFeed, Name, Value, Whole, Over, Broken}
+use Rattle.swh_http.specs.HeadState.{version_byte, advance, advance_all, place_of, MayContinue, StartsWithin}
 use Rattle.swh_http.specs.Wire.{head_limit, BeginsRequestHead, BeginsRequest, BeginsRefusal, IsUnfinished, AwaitsBytes, AreAsks, held_length}
 use Rattle.swh_http.specs.declared.state.State.{State}
 use Rattle.swh_http.specs.declared.state.State.TheVariants.{Head, Body, Closed}
@@ -25,10 +25,10 @@ use Rattle.swh_http.proofs.Ends.{no-request, never-request, no-target, may-becom
 
 -- ---- one byte of a head
 
-pub place-push : (bytes : List ℕ) (b : ℕ) (place : Place) → place_of bytes ≡ place → place_of (bytes ++ b ∷ []) ≡ advance bytes place b
-place-push bytes b place is = advance_all-append [] Blank bytes (b ∷ []) ∙ ap (λ (p : Place). advance bytes p b) is
+pub place-push : (bytes : List ℕ) (b : ℕ) (place : HeadState) → place_of bytes ≡ place → place_of (bytes ++ b ∷ []) ≡ advance bytes place b
+place-push bytes b place is = advance_all-append [] Blank bytes (b ∷ []) ∙ ap (λ (p : HeadState). advance bytes p b) is
 
-within-of : (p : Place) (t : List ℕ) → Stands p t → StartsWithin (length t) p
+within-of : (p : HeadState) (t : List ℕ) → Stands p t → StartsWithin (length t) p
 within-of (Target from) t h = omega (arith, h.start, ap length h.text, length-append (print_blank h.blank ++ (h.method ++ 32 ∷ [])) h.target)
 within-of Blank t h = tt
 within-of BlankEnd t h = tt
@@ -46,21 +46,21 @@ within-of Whole t h = tt
 within-of Over t h = tt
 within-of Broken t h = tt
 
-pub within : (bytes : List ℕ) (place : Place) → place_of bytes ≡ place → StartsWithin (length bytes) place
+pub within : (bytes : List ℕ) (place : HeadState) → place_of bytes ≡ place → StartsWithin (length bytes) place
 within bytes place is =
-    let P : Place → Type 0 = λ p. Stands p bytes in
+    let P : HeadState → Type 0 = λ p. Stands p bytes in
     within-of place bytes (subst P is (stands bytes))
 
 -- no byte of an unfinished head leads past its end
-abbrev NotOver : Place → Type 0
+abbrev NotOver : HeadState → Type 0
 NotOver Over = ⊥
 NotOver _ = Unit {0}
 
-choose : (b : Bool) (p q : Place) → NotOver p → NotOver q → NotOver (if b then p else q)
+choose : (b : Bool) (p q : HeadState) → NotOver p → NotOver q → NotOver (if b then p else q)
 choose true p q hp hq = hp
 choose false p q hp hq = hq
 
-not-over : (p : Place) (t : List ℕ) (b : ℕ) → MayContinue p → NotOver (advance t p b)
+not-over : (p : HeadState) (t : List ℕ) (b : ℕ) → MayContinue p → NotOver (advance t p b)
 not-over Blank t b goes = choose (b == 10) Blank (if b == 13 then BlankEnd else (if is_token_byte b then Method else Broken)) tt (choose (b == 13) BlankEnd (if is_token_byte b then Method else Broken) tt (choose (is_token_byte b) Method Broken tt tt))
 not-over BlankEnd t b goes = choose (b == 10) Blank Broken tt tt
 not-over Method t b goes = choose (is_token_byte b) Method (if b == 32 then Space else Broken) tt (choose (b == 32) Space Broken tt tt)
@@ -78,7 +78,7 @@ not-over Whole t b goes = absurd goes
 not-over Over t b goes = absurd goes
 not-over Broken t b goes = absurd goes
 
-goes-on : (p : Place) → NotOver p → (p ≡ Whole → ⊥) → (p ≡ Broken → ⊥) → MayContinue p
+goes-on : (p : HeadState) → NotOver p → (p ≡ Whole → ⊥) → (p ≡ Broken → ⊥) → MayContinue p
 goes-on Whole over whole broken = whole refl
 goes-on Over over whole broken = over
 goes-on Broken over whole broken = broken refl
@@ -97,10 +97,10 @@ goes-on Value over whole broken = tt
 goes-on (Target from) over whole broken = tt
 
 -- one byte more, after which the head goes on
-pub goes-more : (held : List ℕ) (place after : Place) (b : ℕ) → GoesAt held place → length held < head_limit
+pub goes-more : (held : List ℕ) (place after : HeadState) (b : ℕ) → GoesAt held place → length held < head_limit
     → place_of (held ++ b ∷ []) ≡ after → (after ≡ Whole → ⊥) → (after ≡ Broken → ⊥) → GoesAt (held ++ b ∷ []) after
 goes-more held place after b at room is whole broken =
-    let P : Place → Type 0 = λ p. NotOver p in
+    let P : HeadState → Type 0 = λ p. NotOver p in
     let over = subst P (sym (place-push held b place at.place_is) ∙ is) (not-over place held b at.goes) in
     record {
       place_is = is;
@@ -108,9 +108,9 @@ goes-more held place after b at room is whole broken =
       short = omega (arith, room, length-append held (b ∷ []));
     }
 
-unfinished : (held : List ℕ) (place : Place) → GoesAt held place → IsUnfinished held
+unfinished : (held : List ℕ) (place : HeadState) → GoesAt held place → IsUnfinished held
 unfinished held place at =
-    let P : Place → Type 0 = λ p. MayContinue p in
+    let P : HeadState → Type 0 = λ p. MayContinue p in
     let goes = subst P (sym at.place_is) at.goes in
     record { none = no-request held goes; some = may-become held goes }
 
@@ -120,7 +120,7 @@ joined bytes held rest i text =
     ∙ ap (λ (x : List ℕ). x ++ drop i rest) (sym text)
 
 -- no head ends within the limit
-pub refused-long : (bytes held rest : List ℕ) (i : ℕ) (place : Place) → held ≡ bytes ++ take i rest → GoesAt held place
+pub refused-long : (bytes held rest : List ℕ) (i : ℕ) (place : HeadState) → held ≡ bytes ++ take i rest → GoesAt held place
     → head_limit ≤ length held → i < length rest → BeginsRefusal (bytes ++ rest) 431
 refused-long bytes held rest i place text at full more =
     inr (inl (
@@ -154,7 +154,7 @@ refused-broken bytes held rest i text room more is =
 
 -- ---- what waits
 
-pub waits-head : (bytes : List ℕ) (place : Place) → GoesAt bytes place → AwaitsBytes bytes
+pub waits-head : (bytes : List ℕ) (place : HeadState) → GoesAt bytes place → AwaitsBytes bytes
 waits-head bytes place at = inl (at.short, unfinished bytes place at)
 
 -- ---- a head and its body

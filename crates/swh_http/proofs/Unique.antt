@@ -9,11 +9,11 @@ use Rattle.httparse.proofs.GrammarLemmas.{request_unique}
 use Rattle.swh_base.specs.declared.request.Request.{Request}
 use Rattle.swh_http.specs.declared.ask.Ask.{Ask}
 use Rattle.swh_http.specs.declared.ask.Ask.TheVariants.{Request as Asked, Refused}
-use Rattle.swh_http.specs.declared.place.Place.{Place}
-use Rattle.swh_http.specs.declared.place.Place.TheVariants.{Blank, BlankEnd, Method, Space, Target, Version, Minor, LineEnd as AtLineEnd, Feed, Line, LastFeed, Name, Value, Whole, Over, Broken}
+use Rattle.swh_http.specs.declared.head_state.HeadState.{HeadState}
+use Rattle.swh_http.specs.declared.head_state.HeadState.TheVariants.{Blank, BlankEnd, Method, Space, Target, Version, Minor, LineEnd as AtLineEnd, Feed, Line, LastFeed, Name, Value, Whole, Over, Broken}
 use Rattle.swh_base.specs.Text.{IsNumber}
 use Rattle.swh_http.specs.Field.{Pair, AreLength, AreTakenFields, IsRefusedAs, content_lengths, keeps}
-use Rattle.swh_http.specs.Place.{advance_all, place_of, MayContinue}
+use Rattle.swh_http.specs.HeadState.{advance_all, place_of, MayContinue}
 use Rattle.swh_http.specs.Wire.{head_limit, head_fields, BeginsRequestHead, BeginsRequest, BeginsRefusal, BeginsSo, BeginsNoHead, IsUnfinished, AwaitsBytes, AreAsks}
 use Rattle.swh_http.proofs.Ends.{may-become, target-goes-on, whole-head}
 use Rattle.swh_http.proofs.Follow.{advance_all-append, broken, over, place_of-head}
@@ -38,11 +38,11 @@ same-cut a r b q same long =
 -- ---- a head may go on, or not
 
 -- where more bytes may go on, fewer could
-goes-back : (p : Place) (before bs : List ℕ) → MayContinue (advance_all before p bs) → MayContinue p
+goes-back : (p : HeadState) (before bs : List ℕ) → MayContinue (advance_all before p bs) → MayContinue p
 goes-back Whole before [] goes = goes
-goes-back Whole before (b ∷ bs) goes = let P : Place → Type 0 = λ p. MayContinue p in subst P (over bs (before ++ b ∷ [])) goes
-goes-back Over before bs goes = let P : Place → Type 0 = λ p. MayContinue p in subst P (over bs before) goes
-goes-back Broken before bs goes = let P : Place → Type 0 = λ p. MayContinue p in subst P (broken bs before) goes
+goes-back Whole before (b ∷ bs) goes = let P : HeadState → Type 0 = λ p. MayContinue p in subst P (over bs (before ++ b ∷ [])) goes
+goes-back Over before bs goes = let P : HeadState → Type 0 = λ p. MayContinue p in subst P (over bs before) goes
+goes-back Broken before bs goes = let P : HeadState → Type 0 = λ p. MayContinue p in subst P (broken bs before) goes
 goes-back Blank before bs goes = tt
 goes-back BlankEnd before bs goes = tt
 goes-back Method before bs goes = tt
@@ -59,11 +59,11 @@ goes-back Value before bs goes = tt
 
 front-goes : (front more : List ℕ) → MayContinue (place_of (front ++ more)) → MayContinue (place_of front)
 front-goes front more goes =
-    let P : Place → Type 0 = λ p. MayContinue p in
+    let P : HeadState → Type 0 = λ p. MayContinue p in
     goes-back (place_of front) front more (subst P (advance_all-append [] Blank front more) goes)
 
 -- where more bytes make a whole head, and these are none, the head goes on
-goes-to : (p : Place) (before more : List ℕ) → (p ≡ Whole → ⊥) → advance_all before p more ≡ Whole → MayContinue p
+goes-to : (p : HeadState) (before more : List ℕ) → (p ≡ Whole → ⊥) → advance_all before p more ≡ Whole → MayContinue p
 goes-to Whole before more none ends = absurd (none refl)
 goes-to Over before more none ends = let e = sym (over more before) ∙ ends in cc
 goes-to Broken before more none ends = let e = sym (broken more before) ∙ ends in cc

@@ -1,6 +1,6 @@
 pub mod Field
 pub mod Framed
-pub mod Place
+pub mod HeadState
 pub mod Reply
 pub mod Turn
 pub mod Wire

@@ -2,14 +2,14 @@
 use Rattle.std.specs.Prelude.{◌≡◌, ℕ, ◌*◌, ◌<◌, ◌≤◌, List, [], ◌∷◌, ◌++◌, length, take, drop, Option, Some, None, vec_len, vec_capacity}
 use Rattle.swh_http.specs.declared.ask.Ask.{Ask}
 use Rattle.swh_http.specs.declared.ask.Ask.TheVariants.{Request as Asked, Refused}
-use Rattle.swh_http.specs.declared.place.Place.{Place}
+use Rattle.swh_http.specs.declared.head_state.HeadState.{HeadState}
 use Rattle.swh_http.specs.declared.state.State.{State}
 use Rattle.swh_http.specs.declared.state.State.TheVariants.{Head, Body, Closed}
 use Rattle.swh_http.specs.declared.state.Turn.{Turn}
 use Rattle.swh_http.specs.declared.state.HeadEnd.{HeadEnd}
 use Rattle.swh_http.specs.declared.state.HeadEnd.TheVariants.{Waits, Whole, Refused as NoHead}
 use Rattle.swh_http.specs.Framed.{Frames, IsWholeHead}
-use Rattle.swh_http.specs.Place.{place_of, MayContinue}
+use Rattle.swh_http.specs.HeadState.{place_of, MayContinue}
 use Rattle.swh_http.specs.Wire.{head_limit, AreAsks, BeginsRequest, BeginsRefusal}
 
 -- the bytes that wait for more; none once a refusal was given
@@ -19,7 +19,7 @@ held_of (Body head framed body) = Some (head.items ++ body.items)
 held_of Closed = None
 
 -- The bytes of a head end at this place, and may go on.
-pub record GoesAt (bytes : List ℕ) (place : Place) : Type 0 where
+pub record GoesAt (bytes : List ℕ) (place : HeadState) : Type 0 where
   pub place_is : place_of bytes ≡ place
   pub goes : MayContinue place
   pub short : length bytes ≤ head_limit

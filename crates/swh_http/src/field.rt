@@ -27,8 +27,7 @@ ghost use Rattle.swh_http.specs.Field.{values, AreLength, is_close, has_close, A
 
 use httparse::spans::HeaderSpan;
 use std::alloc::Global;
-use swh_base::{Memory, number_of};
-use swh_pieces::split_at_byte;
+use swh_base::{Memory, number_of, split_at_byte};
 
 fn is_same_word(word: &[u8], other: &[u8]) -> bool
     ensures { result ≡ str_eq_ignore_ascii_case word.now other.now }

@@ -21,13 +21,13 @@ ghost use Rattle.std.specs.Prelude.{
   vec_capacity,
 };
 ghost use Rattle.swh_http.specs.Framed.{Frames, IsWholeHead};
-ghost use Rattle.swh_http.specs.Place.{place_of};
+ghost use Rattle.swh_http.specs.HeadState.{place_of};
 ghost use Rattle.swh_http.specs.Turn.{GoesAt, MayTakeMore, IsHeadEnd, IsTurn, StaysClosed, held_of};
 ghost use Rattle.swh_http.specs.Wire.{head_limit};
 
 use crate::ask::Ask;
 use crate::head::{Framed, frame};
-use crate::place::{Place, advance};
+use crate::head_state::{HeadState, advance};
 use std::alloc::Global;
 use swh_base::{Bytes, Memory, Request};
 
@@ -40,7 +40,7 @@ pub enum State {
     /// A head without its end, whose bytes end at this place.
     Head {
         bytes: Vec<u8>,
-        place: Place,
+        place: HeadState,
     },
     /// A head, and a body without its end.
     Body {
@@ -63,13 +63,13 @@ pub struct Turn {
 /// What the bytes of a head come to.
 #[derive(Drop)]
 enum HeadEnd {
-    Waits { bytes: Vec<u8>, place: Place },
+    Waits { bytes: Vec<u8>, place: HeadState },
     Whole { bytes: Vec<u8>, taken: usize },
     Refused { status: u16 },
 }
 
 // One byte more of a head.
-fn next_place(held: &mut Vec<u8>, place: Place, byte: u8) -> Result<Place, Memory>
+fn next_place(held: &mut Vec<u8>, place: HeadState, byte: u8) -> Result<HeadState, Memory>
     requires { place_of held.old.items ≡ place }
     ensures { IfOk result (λ after. (held.new.items ≡ held.old.items ++ byte ∷ [])
         × (place_of held.new.items ≡ after)) }
@@ -79,7 +79,7 @@ fn next_place(held: &mut Vec<u8>, place: Place, byte: u8) -> Result<Place, Memor
     Ok(after)
 }
 
-fn read_head(bytes: Vec<u8>, place: Place, rest: &[u8]) -> Result<HeadEnd, Memory>
+fn read_head(bytes: Vec<u8>, place: HeadState, rest: &[u8]) -> Result<HeadEnd, Memory>
     requires { GoesAt bytes.items place }
     ensures { IfOk result (IsHeadEnd bytes.items rest.now) }
 {
@@ -90,11 +90,11 @@ fn read_head(bytes: Vec<u8>, place: Place, rest: &[u8]) -> Result<HeadEnd, Memor
             return Ok(HeadEnd::Refused { status: 431 });
         }
         match next_place(&mut held, place, *byte)? {
-            Place::Whole => {
+            HeadState::Whole => {
                 let taken = index + 1;
                 return Ok(HeadEnd::Whole { bytes: held, taken });
             }
-            Place::Broken => return Ok(HeadEnd::Refused { status: 400 }),
+            HeadState::Broken => return Ok(HeadEnd::Refused { status: 400 }),
             after => place = after,
         }
     }
@@ -192,7 +192,7 @@ pub fn fresh(alloc: Global) -> State
 {
     State::Head {
         bytes: Vec::new(alloc),
-        place: Place::Blank,
+        place: HeadState::Blank,
     }
 }
 
@@ -232,7 +232,7 @@ fn whole_turn(alloc: Global, bytes: &[u8], head: Vec<u8>, taken: usize) -> Resul
     }
 }
 
-fn head_turn(alloc: Global, bytes: Vec<u8>, place: Place, rest: &[u8]) -> Result<Turn, Memory>
+fn head_turn(alloc: Global, bytes: Vec<u8>, place: HeadState, rest: &[u8]) -> Result<Turn, Memory>
     requires stands { GoesAt bytes.items place }
     requires more { 0 < length rest.now }
     ensures some_taken { IfOk result (λ turn. (0 < turn.taken) × (turn.taken ≤ length rest.now)) }

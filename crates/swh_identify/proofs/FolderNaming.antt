@@ -5,14 +5,14 @@ use Rattle.swh_base.specs.declared.kind.Kind.{Kind}
 use Rattle.swh_outside.specs.Folder.{Tree}
 use Rattle.swh_dirload.specs.Root.{HasRoot}
 use Rattle.swh_dirload.proofs.OneFolder.{one_root, root_unbroken}
-use Rattle.swh_answers.specs.Answers.{TellsDisk, status_of}
-use Rattle.swh_answers.specs.Run.{IsExactly}
+use Rattle.swh_exit.specs.Answers.{TellsDisk, status_of}
+use Rattle.swh_exit.specs.Run.{IsExactly}
 use Rattle.swh_identify.specs.IdentifyFolderCommand.{directory_line, HasNoDirectory, TellsFolder, FolderEnds, IsFolderAnswer}
-use Rattle.swh_answers.specs.declared.answer.Ending.{Ending}
-use Rattle.swh_answers.specs.declared.answer.Ending.TheVariants as ending
-use Rattle.swh_answers.specs.declared.answer.Answer.{Answer}
-use Rattle.swh_answers.specs.declared.answer.Answer.TheVariants.{Told, OutsideDisk, OutsideFolder, Memory}
-use Rattle.swh_answers.proofs.Statuses.{Tells, stopped, told_status}
+use Rattle.swh_exit.specs.declared.answer.Ending.{Ending}
+use Rattle.swh_exit.specs.declared.answer.Ending.TheVariants as ending
+use Rattle.swh_exit.specs.declared.answer.Answer.{Answer}
+use Rattle.swh_exit.specs.declared.answer.Answer.TheVariants.{Told, OutsideDisk, OutsideFolder, Memory}
+use Rattle.swh_exit.proofs.Statuses.{Tells, stopped, told_status}
 
 module _ (id_of : Kind → List ℕ → List ℕ) where
   -- it is never refused for words, a job or an archive

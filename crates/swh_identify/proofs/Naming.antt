@@ -4,15 +4,15 @@ use Rattle.std.specs.Prelude.{replicate}
 use Rattle.std.proofs.lemmas.List.{append-nil, length-replicate}
 use Rattle.swh_base.specs.Limits.{body_limit}
 use Rattle.swh_base.specs.declared.kind.Kind.{Kind}
-use Rattle.swh_answers.specs.Answers.{status_of, TellsLine}
-use Rattle.swh_answers.specs.Run.{IsExactly}
-use Rattle.swh_answers.specs.Refusal.{refusal}
+use Rattle.swh_exit.specs.Answers.{status_of, TellsLine}
+use Rattle.swh_exit.specs.Run.{IsExactly}
+use Rattle.swh_exit.specs.Refusal.{refusal}
 use Rattle.swh_identify.specs.IdentifyCommand.{name_of_bytes, name_line, IsBody, IsAboveBodyLimit, RefusesBytes, HasNoBody, TellsFile, IsIdentifyAnswer, IdentifyEnds}
-use Rattle.swh_answers.specs.declared.answer.Ending.{Ending}
-use Rattle.swh_answers.specs.declared.answer.Ending.TheVariants as ending
-use Rattle.swh_answers.specs.declared.answer.Answer.{Answer}
-use Rattle.swh_answers.specs.declared.answer.Answer.TheVariants.{Made, Told, Words, NoJobFile, BadJob, AlreadyMade, NotMade, Damaged, OutsideDisk, OutsideSource, OutsideFolder, OutsideYard, OutsideClock, Memory}
-use Rattle.swh_answers.proofs.Statuses.{Tells, stopped, told_status}
+use Rattle.swh_exit.specs.declared.answer.Ending.{Ending}
+use Rattle.swh_exit.specs.declared.answer.Ending.TheVariants as ending
+use Rattle.swh_exit.specs.declared.answer.Answer.{Answer}
+use Rattle.swh_exit.specs.declared.answer.Answer.TheVariants.{Made, Told, Words, NoJobFile, BadJob, AlreadyMade, NotMade, Damaged, OutsideDisk, OutsideSource, OutsideFolder, OutsideYard, OutsideClock, Memory}
+use Rattle.swh_exit.proofs.Statuses.{Tells, stopped, told_status}
 
 module _ (id_of : Kind → List ℕ → List ℕ) (kind : Kind) where
   -- a line is told of what stands at the path

@@ -6,15 +6,15 @@ use Rattle.swh_base.specs.Limits.{body_limit}
 use Rattle.swh_base.specs.Manifest.{IsWellFormed}
 use Rattle.swh_object.specs.Object.{IsBadBody}
 use Rattle.swh_swhid.specs.Core.{core_text}
-use Rattle.swh_answers.specs.Seen.{Span, DeskFailed, SinkFailed}
-use Rattle.swh_answers.specs.LeftAlone.{IsOnDesk}
-use Rattle.swh_answers.specs.Refusal.{refusal}
-use Rattle.swh_answers.specs.Run.{IsExactly, Ends, IsPrintedWith}
+use Rattle.swh_exit.specs.Seen.{Span, DeskFailed, SinkFailed}
+use Rattle.swh_exit.specs.LeftAlone.{IsOnDesk}
+use Rattle.swh_exit.specs.Refusal.{refusal}
+use Rattle.swh_exit.specs.Run.{IsExactly, Ends, IsPrintedWith}
 use Rattle.swh_base.specs.Kind.{kind_letters}
-use Rattle.swh_answers.specs.declared.answer.Ending.{Ending}
-use Rattle.swh_answers.specs.declared.answer.Ending.TheVariants as ending
-use Rattle.swh_answers.specs.declared.answer.Answer.{Answer}
-use Rattle.swh_answers.specs.declared.answer.Answer.TheVariants.{Told, OutsideSource, Memory}
+use Rattle.swh_exit.specs.declared.answer.Ending.{Ending}
+use Rattle.swh_exit.specs.declared.answer.Ending.TheVariants as ending
+use Rattle.swh_exit.specs.declared.answer.Answer.{Answer}
+use Rattle.swh_exit.specs.declared.answer.Answer.TheVariants.{Told, OutsideSource, Memory}
 
 -- the name of bytes as a body of this kind
 abbrev pub name_of_bytes : (Kind → List ℕ → List ℕ) → Kind → List ℕ → Name

@@ -11,15 +11,15 @@ use Rattle.swh_dirload.specs.May.{MayRefusePlain}
 use Rattle.swh_dirload.specs.Meaning.{BreaksFolder}
 use Rattle.swh_dirload.specs.Root.{HasRoot, IsOfDirectory}
 use Rattle.swh_loader.specs.Report.{which_word}
-use Rattle.swh_answers.specs.Seen.{Span, DeskFailed, SinkFailed}
-use Rattle.swh_answers.specs.LeftAlone.{IsOnDesk}
-use Rattle.swh_answers.specs.Refusal.{refusal}
-use Rattle.swh_answers.specs.Run.{IsExactly, Ends, IsPrintedWith}
+use Rattle.swh_exit.specs.Seen.{Span, DeskFailed, SinkFailed}
+use Rattle.swh_exit.specs.LeftAlone.{IsOnDesk}
+use Rattle.swh_exit.specs.Refusal.{refusal}
+use Rattle.swh_exit.specs.Run.{IsExactly, Ends, IsPrintedWith}
 use Rattle.swh_identify.specs.IdentifyCommand.{name_line}
-use Rattle.swh_answers.specs.declared.answer.Ending.{Ending}
-use Rattle.swh_answers.specs.declared.answer.Ending.TheVariants as ending
-use Rattle.swh_answers.specs.declared.answer.Answer.{Answer}
-use Rattle.swh_answers.specs.declared.answer.Answer.TheVariants.{Told, OutsideFolder, Memory}
+use Rattle.swh_exit.specs.declared.answer.Ending.{Ending}
+use Rattle.swh_exit.specs.declared.answer.Ending.TheVariants as ending
+use Rattle.swh_exit.specs.declared.answer.Answer.{Answer}
+use Rattle.swh_exit.specs.declared.answer.Answer.TheVariants.{Told, OutsideFolder, Memory}
 
 -- the name of a directory as it is printed
 abbrev pub directory_line : List ℕ → List ℕ

@@ -3,10 +3,10 @@ ghost use Rattle.std.specs.Prelude.{◌≡◌, ◌≢◌, ◌+◌, ◌<◌, ◌�
 ghost use Rattle.swh_fastlex.specs.ReadOn.{IsQuietBut};
 ghost use Rattle.swh_fastlex.specs.Whole.{IsAllThatWasLeft, GivesAtMost};
 ghost use Rattle.swh_fastlex.specs.declared.fault.SourceFault.TheVariants.{Failed, Limit};
-ghost use Rattle.swh_answers.specs.Refusal.{refusal};
+ghost use Rattle.swh_exit.specs.Refusal.{refusal};
 ghost use Rattle.swh_base.specs.declared.kind.Kind.TheVariants.{Directory};
 ghost use Rattle.swh_outside.specs.Faults.{Rose};
-ghost use Rattle.swh_answers.specs.Answers.{TellsLine};
+ghost use Rattle.swh_exit.specs.Answers.{TellsLine};
 ghost use Rattle.swh_identify.specs.IdentifyCommand.{
   name_of_bytes,
   name_line,
@@ -15,14 +15,14 @@ ghost use Rattle.swh_identify.specs.IdentifyCommand.{
   IsIdentifyAnswer,
   IdentifyEnds,
 };
-ghost use Rattle.swh_answers.specs.Run.{IsQuiet};
-ghost use Rattle.swh_answers.specs.declared.answer.Ending.TheVariants as ending;
-ghost use Rattle.swh_answers.specs.declared.answer.Answer.TheVariants.{OutsideSource};
+ghost use Rattle.swh_exit.specs.Run.{IsQuiet};
+ghost use Rattle.swh_exit.specs.declared.answer.Ending.TheVariants as ending;
+ghost use Rattle.swh_exit.specs.declared.answer.Answer.TheVariants.{OutsideSource};
 
 use itoa::Buffer;
 use std::alloc::Global;
-use swh_answers::{Answer, Ending, Text};
 use swh_base::{BODY_LIMIT, Bytes, Kind, Memory, Name, Namer};
+use swh_exit::{Answer, Ending, Text};
 use swh_fastlex::{SourceFault, read_source_reserved};
 use swh_object::{Object, ObjectFault};
 use swh_outside::{Opened, Origins, Source};

@@ -3,7 +3,7 @@ ghost use Rattle.std.specs.Prelude.{◌≡◌, ◌≤◌, ℕ, IfOk};
 ghost use Rattle.swh_outside.specs.Faults.{Rose};
 ghost use Rattle.swh_dirload.specs.declared.fault.DirFault.TheVariants.{ReadFault as NotRead};
 ghost use Rattle.swh_dirload.specs.May.{IsAbovePlain, MayRefusePlain};
-ghost use Rattle.swh_answers.specs.Answers.{TellsLine};
+ghost use Rattle.swh_exit.specs.Answers.{TellsLine};
 ghost use Rattle.swh_identify.specs.IdentifyFolderCommand.{
   other_line,
   limit_line,
@@ -11,14 +11,14 @@ ghost use Rattle.swh_identify.specs.IdentifyFolderCommand.{
   FolderEnds,
   IsFolderAnswer,
 };
-ghost use Rattle.swh_answers.specs.declared.answer.Ending.TheVariants as ending;
-ghost use Rattle.swh_answers.specs.declared.answer.Answer.TheVariants.{OutsideFolder};
+ghost use Rattle.swh_exit.specs.declared.answer.Ending.TheVariants as ending;
+ghost use Rattle.swh_exit.specs.declared.answer.Answer.TheVariants.{OutsideFolder};
 
 use crate::identify_command::{tell_name, tell_refusal};
 use std::alloc::Global;
-use swh_answers::{Answer, Ending, Text};
 use swh_base::{Bytes, Kind, Memory, Name, Namer, Which, escape};
 use swh_dirload::{DirFault, name_folder};
+use swh_exit::{Answer, Ending, Text};
 use swh_outside::{Opened, Origins};
 
 // What is printed of an item that is neither file nor folder.

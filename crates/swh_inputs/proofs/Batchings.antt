@@ -11,17 +11,17 @@ use Rattle.swh_outside.specs.Faults.{Rose}
 use Rattle.swh_outside.specs.Views.{Sources}
 use Rattle.swh_model.specs.Meaning.{StreamMeaning}
 use Rattle.swh_object.specs.Object.{IsObject}
-use Rattle.swh_made.specs.Making.{made}
+use Rattle.swh_dedup.specs.Making.{made}
 use Rattle.swh_fastload.specs.Giving.{meaning_of}
 use Rattle.swh_batchread.specs.BatchFault.{BreaksBatch, MayBreakBatch}
 use Rattle.swh_batchread.specs.Giving.{BatchState, BreaksOff, EndsBatch, GoesOn}
 use Rattle.swh_batchread.specs.RefsFault.{BreaksRefs, MayBreakRefs}
 use Rattle.swh_batchread.specs.declared.fault.BatchFault.{BatchFault}
-use Rattle.swh_walk.specs.declared.input.Input.TheVariants as given
-use Rattle.swh_walk.specs.declared.parts.Next.{Next}
-use Rattle.swh_walk.specs.declared.parts.Next.TheVariants as next
-use Rattle.swh_walk.specs.Parts.{GaveSoFar, GaveSome, GaveAll, Broke, MayHaveGiven, IsReadOn, ReachesAll}
-use Rattle.swh_walk.proofs.SoFar.{so_far_keeps, some_keeps}
+use Rattle.swh_ingest.specs.declared.input.Input.TheVariants as given
+use Rattle.swh_ingest.specs.declared.parts.Next.{Next}
+use Rattle.swh_ingest.specs.declared.parts.Next.TheVariants as next
+use Rattle.swh_ingest.specs.Parts.{GaveSoFar, GaveSome, GaveAll, Broke, MayHaveGiven, IsReadOn, ReachesAll}
+use Rattle.swh_ingest.proofs.SoFar.{so_far_keeps, some_keeps}
 use Rattle.swh_inputs.specs.Input.{MeansInput}
 use Rattle.swh_inputs.specs.Input.InputText.{BatchText}
 use Rattle.swh_inputs.specs.Batching.{AreQuiet, IsNextFault, IsNextOfBatch}

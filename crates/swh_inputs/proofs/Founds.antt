@@ -1,7 +1,7 @@
 -- An input that was found holds something.
 use Rattle.std.proofs.Common.{◌≡◌, Some, None, refl}
 use Rattle.swh_outside.specs.declared.fault.Opened.TheVariants as part
-use Rattle.swh_walk.specs.declared.input.Opening.TheVariants.{Found}
+use Rattle.swh_ingest.specs.declared.input.Opening.TheVariants.{Found}
 use Rattle.swh_inputs.specs.Input.{InputText}
 use Rattle.swh_inputs.specs.Input.InputText.{StreamText, FolderText, BatchText}
 use Rattle.swh_inputs.specs.Opening.{opening_of}

@@ -10,9 +10,9 @@ use Rattle.swh_outside.specs.Faults.{Rose}
 use Rattle.swh_outside.specs.Folder.{Tree}
 use Rattle.swh_outside.specs.Views.{Sources}
 use Rattle.swh_object.specs.Object.{IsObject}
-use Rattle.swh_made.specs.Making.{made}
-use Rattle.swh_made.specs.Whole.{HasAllThatIsReached}
-use Rattle.swh_made.specs.declared.objects.Objects.{Objects}
+use Rattle.swh_dedup.specs.Making.{made}
+use Rattle.swh_dedup.specs.Whole.{HasAllThatIsReached}
+use Rattle.swh_dedup.specs.declared.objects.Objects.{Objects}
 use Rattle.swh_fastload.specs.Input.{Means}
 use Rattle.swh_fastload.specs.Loaded.{making_of}
 use Rattle.swh_fastload.specs.Sourced.{ExplainsSource}
@@ -28,9 +28,9 @@ use Rattle.swh_batchread.specs.Failing.{Fails}
 use Rattle.swh_batchread.specs.Refs.{MeansRefs}
 use Rattle.swh_batchread.specs.declared.fault.BatchFault.{BatchFault}
 use Rattle.swh_batchread.specs.declared.fault.BatchFault.TheVariants as of_batch
-use Rattle.swh_walk.specs.Loading.{IsWhole}
-use Rattle.swh_walk.specs.declared.input.Input.{Input as Given}
-use Rattle.swh_walk.specs.declared.input.Input.TheVariants as given
+use Rattle.swh_ingest.specs.Loading.{IsWhole}
+use Rattle.swh_ingest.specs.declared.input.Input.{Input as Given}
+use Rattle.swh_ingest.specs.declared.input.Input.TheVariants as given
 use Rattle.swh_inputs.specs.declared.bad.InputFault.{InputFault}
 use Rattle.swh_inputs.specs.declared.bad.InputFault.TheVariants.{ReadFault}
 use Rattle.swh_inputs.specs.Input.{listing_text, BreaksBoth, MayBreakBoth, MeansInput, BreaksInput, MayBreakInput}

@@ -10,7 +10,7 @@ use Rattle.swh_base.proofs.Children.{one_list}
 use Rattle.swh_outside.specs.Folder.{Tree}
 use Rattle.swh_model.specs.Meaning.{Made, StreamMeaning}
 use Rattle.swh_object.specs.Object.{IsObject}
-use Rattle.swh_made.specs.Making.{made, made_from}
+use Rattle.swh_dedup.specs.Making.{made, made_from}
 use Rattle.swh_fastload.specs.declared.bad.BadStream.TheVariants as stream
 use Rattle.swh_fastload.specs.Input.{IsSameMaking, Means}
 use Rattle.swh_fastload.proofs.InputLaws as streams

@@ -12,8 +12,8 @@ use Rattle.swh_model.specs.Meaning.{Made, StreamMeaning}
 use Rattle.swh_object.specs.Object.{IsObject}
 use Rattle.std.proofs.lemmas.List.{map-append}
 use Rattle.std.proofs.lemmas.List.Elements.{Contains-append_left}
-use Rattle.swh_made.specs.Making.{made, made_from}
-use Rattle.swh_made.proofs.Wholes.{new_whole}
+use Rattle.swh_dedup.specs.Making.{made, made_from}
+use Rattle.swh_dedup.proofs.Wholes.{new_whole}
 use Rattle.swh_fastload.specs.Giving.{BreaksOff, EndsStream, GoesOn, StreamState, meaning_of}
 use Rattle.swh_fastload.specs.declared.bad.BadStream.TheVariants as stream
 use Rattle.swh_fastload.specs.declared.bad.InputFault.{InputFault as StreamFault}
@@ -22,10 +22,10 @@ use Rattle.swh_fastload.specs.Input.{Means}
 use Rattle.swh_fastload.proofs.Givings.{come_first, given_meant, gives_first, gives_meant}
 use Rattle.swh_batchread.specs.Giving.{GivesFirst}
 use Rattle.swh_batchread.proofs.Givings.{first_among}
-use Rattle.swh_walk.specs.declared.parts.Next.{Next}
-use Rattle.swh_walk.specs.declared.parts.Next.TheVariants as next
-use Rattle.swh_walk.specs.Parts.{GaveSoFar, GaveSome, GaveAll, Broke, MayHaveGiven, IsReadOn, ReachesAll}
-use Rattle.swh_walk.proofs.SoFar.{so_far_keeps, some_keeps}
+use Rattle.swh_ingest.specs.declared.parts.Next.{Next}
+use Rattle.swh_ingest.specs.declared.parts.Next.TheVariants as next
+use Rattle.swh_ingest.specs.Parts.{GaveSoFar, GaveSome, GaveAll, Broke, MayHaveGiven, IsReadOn, ReachesAll}
+use Rattle.swh_ingest.proofs.SoFar.{so_far_keeps, some_keeps}
 use Rattle.swh_inputs.specs.Input.{InputText, BreaksInput, MayBreakInput, MeansInput}
 use Rattle.swh_inputs.specs.Input.InputText.{StreamText, FolderText, BatchText}
 use Rattle.swh_inputs.specs.Streaming.{AreMeantBy, IsNextOf, MayGiveInput}

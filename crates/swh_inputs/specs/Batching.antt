@@ -8,9 +8,9 @@ use Rattle.swh_outside.specs.Faults.{Rose}
 use Rattle.swh_outside.specs.Views.{Sources}
 use Rattle.swh_batchread.specs.Batch.{input_limit}
 use Rattle.swh_batchread.specs.Giving.{BatchState, EndsBatch, GoesOn}
-use Rattle.swh_walk.specs.declared.input.Input.TheVariants as given
-use Rattle.swh_walk.specs.declared.parts.Next.{Next}
-use Rattle.swh_walk.specs.declared.parts.Next.TheVariants as next
+use Rattle.swh_ingest.specs.declared.input.Input.TheVariants as given
+use Rattle.swh_ingest.specs.declared.parts.Next.{Next}
+use Rattle.swh_ingest.specs.declared.parts.Next.TheVariants as next
 use Rattle.swh_inputs.specs.Input.InputText.{BatchText}
 use Rattle.swh_inputs.specs.Reading.{GivesSo}
 use Rattle.swh_inputs.specs.declared.bad.InputFault.{InputFault}

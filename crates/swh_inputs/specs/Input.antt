@@ -9,7 +9,7 @@ use Rattle.swh_base.specs.declared.visit.VisitKind.TheVariants.{Fast, Dir, Batch
 use Rattle.swh_outside.specs.Folder.{Tree}
 use Rattle.swh_model.specs.Meaning.{StreamMeaning}
 use Rattle.swh_object.specs.Object.{IsObject}
-use Rattle.swh_made.specs.Making.{made}
+use Rattle.swh_dedup.specs.Making.{made}
 use Rattle.swh_fastload.specs.Input.{Means, Breaks, MayBreak}
 use Rattle.swh_fastload.specs.declared.bad.BadStream.TheVariants as stream
 use Rattle.swh_dirload.specs.Meaning.{MeansFolder, BreaksFolder}

@@ -4,8 +4,8 @@ use Rattle.swh_base.specs.declared.visit.VisitKind.{VisitKind}
 use Rattle.swh_base.specs.declared.visit.VisitKind.TheVariants as visit
 use Rattle.swh_outside.specs.declared.fault.Opened.{Opened}
 use Rattle.swh_outside.specs.declared.fault.Opened.TheVariants as opened
-use Rattle.swh_walk.specs.declared.input.Opening.{Opening}
-use Rattle.swh_walk.specs.declared.input.Opening.TheVariants.{Found, NotFound, Failed, Memory}
+use Rattle.swh_ingest.specs.declared.input.Opening.{Opening}
+use Rattle.swh_ingest.specs.declared.input.Opening.TheVariants.{Found, NotFound, Failed, Memory}
 use Rattle.swh_inputs.specs.declared.input.Input.{Input}
 use Rattle.swh_inputs.specs.declared.input.Input.TheVariants.{Fast, Dir, Batch}
 

@@ -11,8 +11,8 @@ use Rattle.swh_dirload.specs.declared.fault.DirFault.{DirFault}
 use Rattle.swh_dirload.specs.declared.fault.DirFault.TheVariants as of_folder
 use Rattle.swh_batchread.specs.declared.fault.BatchFault.{BatchFault}
 use Rattle.swh_batchread.specs.declared.fault.BatchFault.TheVariants as of_batch
-use Rattle.swh_walk.specs.declared.input.Input.{Input as Given}
-use Rattle.swh_walk.specs.declared.input.Input.TheVariants as given
+use Rattle.swh_ingest.specs.declared.input.Input.{Input as Given}
+use Rattle.swh_ingest.specs.declared.input.Input.TheVariants as given
 use Rattle.swh_inputs.specs.Input.{InputText, MeansInput, BreaksInput, MayBreakInput}
 use Rattle.swh_inputs.specs.Opening.{kind_of}
 use Rattle.swh_inputs.specs.Parts.{Parts, TellAll, text_of, HasFailed}

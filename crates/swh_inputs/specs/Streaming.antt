@@ -8,8 +8,8 @@ use Rattle.swh_model.specs.Meaning.{Made, StreamMeaning}
 use Rattle.swh_fastread.specs.declared.reader.Ending.TheVariants.{Open}
 use Rattle.swh_fastload.specs.Giving.{EndsStream, GoesOn, MayGive, StreamState}
 use Rattle.swh_batchread.specs.Giving.{GivesFirst}
-use Rattle.swh_walk.specs.declared.parts.Next.{Next}
-use Rattle.swh_walk.specs.declared.parts.Next.TheVariants as next
+use Rattle.swh_ingest.specs.declared.parts.Next.{Next}
+use Rattle.swh_ingest.specs.declared.parts.Next.TheVariants as next
 use Rattle.swh_inputs.specs.Input.{InputText, BreaksInput, MayBreakInput, MeansInput}
 use Rattle.swh_inputs.specs.Input.InputText.{StreamText, FolderText, BatchText}
 use Rattle.swh_inputs.specs.declared.bad.InputFault.{InputFault}

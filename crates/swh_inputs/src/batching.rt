@@ -3,7 +3,7 @@ ghost use Rattle.std.specs.Prelude.{◌≡◌, ◌≤◌, ℕ, List, IfOk};
 ghost use Rattle.swh_base.specs.declared.entry.Entry.{Entry};
 ghost use Rattle.swh_outside.specs.Views.{sources};
 ghost use Rattle.swh_batchread.specs.Giving.{GoesOn};
-ghost use Rattle.swh_walk.specs.Parts.{IsMore};
+ghost use Rattle.swh_ingest.specs.Parts.{IsMore};
 ghost use Rattle.swh_inputs.specs.Batching.{AreQuiet, BatchCameOn, BatchMayGoOn, IsNextFault, IsNextOfBatch};
 ghost use Rattle.swh_inputs.specs.Parts.{IsSameSource};
 
@@ -12,8 +12,8 @@ use crate::reading::fault_of_batch;
 use std::alloc::Global;
 use swh_base::{Memory, Namer};
 use swh_batchread::{BatchPart, BatchParts};
+use swh_ingest::{Next, SaidOfParts};
 use swh_outside::Source;
-use swh_walk::{Next, SaidOfParts};
 
 /// A batch with its refs that is read part by part, and the sources that have what is left of the two.
 #[derive(Drop)]

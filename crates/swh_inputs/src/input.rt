@@ -3,8 +3,8 @@ ghost use Rattle.std.specs.Prelude.{◌≡◌};
 ghost use Rattle.swh_inputs.specs.Opening.{found_as, found_first, listing_found, kind_of, opening_of};
 
 use swh_base::{Bytes, VisitKind};
+use swh_ingest::Opening;
 use swh_outside::Opened;
-use swh_walk::Opening;
 
 /// An input by its parts, each as it was opened.
 #[derive(Drop)]

@@ -6,8 +6,8 @@ ghost use Rattle.swh_outside.specs.Faults.{Rose};
 ghost use Rattle.swh_outside.specs.Views.{sources};
 ghost use Rattle.swh_outside.specs.declared.fault.Opened.TheVariants.{Found as Here};
 ghost use Rattle.std.specs.Option.{option_copied};
-ghost use Rattle.swh_walk.specs.Loading.{IsWhole};
-ghost use Rattle.swh_walk.specs.declared.input.Opening.TheVariants.{Found};
+ghost use Rattle.swh_ingest.specs.Loading.{IsWhole};
+ghost use Rattle.swh_ingest.specs.declared.input.Opening.TheVariants.{Found};
 ghost use Rattle.swh_inputs.specs.Input.InputText.{StreamText, FolderText, BatchText};
 ghost use Rattle.swh_inputs.specs.declared.input.Input.TheVariants.{Dir as DirInput};
 ghost use Rattle.swh_inputs.specs.Opening.{found_as, found_first, listing_found, opening_of};
@@ -22,8 +22,8 @@ use swh_base::{Bytes, Memory, Namer};
 use swh_batchread::{BatchFault, read_batch, read_refs};
 use swh_dirload::{DirFault, load_folder};
 use swh_fastload::{BadStream, InputFault as StreamFault, load_source};
+use swh_ingest::Input as Given;
 use swh_outside::{Folder, Opened, Source};
-use swh_walk::Input as Given;
 
 /// The fault of an input for one of its stream.
 pub fn fault_of_stream(fault: StreamFault) -> Result<InputFault, Memory>

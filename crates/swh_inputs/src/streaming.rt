@@ -3,7 +3,7 @@ ghost use Rattle.std.specs.Prelude.{◌≡◌, ◌≤◌, ◌^◌, ℕ, List, If
 ghost use Rattle.swh_base.specs.Text.{IsRef};
 ghost use Rattle.swh_base.specs.declared.entry.Entry.{Entry};
 ghost use Rattle.swh_fastload.specs.Giving.{GoesOn};
-ghost use Rattle.swh_walk.specs.Parts.{IsMore};
+ghost use Rattle.swh_ingest.specs.Parts.{IsMore};
 ghost use Rattle.swh_inputs.specs.Streaming.{CameOn, IsNextOf};
 
 use crate::bad::InputFault;
@@ -11,8 +11,8 @@ use crate::reading::{fault_of_stream, head_of};
 use std::alloc::Global;
 use swh_base::{Bytes, Memory, Namer};
 use swh_fastload::{StreamPart, StreamParts};
+use swh_ingest::{Next, SaidOfParts};
 use swh_outside::Source;
-use swh_walk::{Next, SaidOfParts};
 
 /// What is said of a stream that is read part by part: it may be read on as long as its reader is open, and each part takes the
 /// reader on.

@@ -6,8 +6,8 @@ use std::test::Fail;
 use swh_base::{Kind, Memory, Name, Sha1Namer};
 use swh_batchread::BatchParts;
 use swh_fastload::Window;
+use swh_ingest::Next;
 use swh_inputs::{BadText, BatchInput, InputFault, next_of_batch};
-use swh_walk::Next;
 
 /// What comes behind the parts of a batch.
 #[derive(Clone, Copy)]

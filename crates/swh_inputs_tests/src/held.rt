@@ -1,7 +1,7 @@
 // Inputs in memory, laid out from tables.
 ghost use Rattle.std.specs.Prelude.{◌≡◌, IfOk, IfSome};
 ghost use Rattle.swh_base.specs.Text.{IsRef};
-ghost use Rattle.swh_walk.specs.declared.input.Opening.TheVariants.{Found};
+ghost use Rattle.swh_ingest.specs.declared.input.Opening.TheVariants.{Found};
 ghost use Rattle.swh_inputs.specs.Opening.{listing_found, opening_of};
 ghost use Rattle.swh_inputs.specs.Parts.{HasGoodHead};
 
@@ -9,7 +9,7 @@ use std::alloc::{AllocError, Global};
 use std::sync::ArcSlice;
 use swh_base::{Bytes, is_ref};
 use swh_inputs::Input;
-use swh_memory_input::{MemoryFolder, MemorySource, Place, Stands};
+use swh_memory_input::{MemoryFolder, MemorySource, PathItem, Stands};
 use swh_outside::{Item, Opened, What};
 
 /// An input in memory.
@@ -37,9 +37,9 @@ pub fn source_of(alloc: Global, (text, failing): Text) -> Result<MemorySource, A
     Ok(MemorySource::new(String::new(alloc), bytes, 7, failing))
 }
 
-fn place_of(alloc: Global, path: &str, stands: Stands) -> Result<Place, AllocError> {
+fn place_of(alloc: Global, path: &str, stands: Stands) -> Result<PathItem, AllocError> {
     let path = String::from_str(alloc, path)?;
-    Ok(Place { path, stands })
+    Ok(PathItem { path, stands })
 }
 
 fn folder_of(

@@ -1,6 +1,6 @@
 //! Tests of inputs of three kinds, over sources and folders in memory.
-//! Stands on what it tests, on `swh_base`, `swh_walk` and the types of what an input makes, and on the sources and folders of
-//! `swh_memory_input`.
+//! Stands on what it tests, on `swh_base`, `swh_ingest` and the types of what an input makes, and on the sources and
+//! folders of `swh_memory_input`.
 //! Nothing stands above it.
 #![tactic(auto)]
 

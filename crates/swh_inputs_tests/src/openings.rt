@@ -3,10 +3,10 @@ use crate::held::MemoryInput;
 use std::alloc::Global;
 use std::test::Fail;
 use swh_base::VisitKind;
+use swh_ingest::Opening;
 use swh_inputs::Input;
 use swh_memory_input::{MemoryFolder, MemorySource};
 use swh_outside::Opened;
-use swh_walk::Opening;
 
 fn source_found(alloc: Global) -> MemorySource {
     MemorySource::new(String::new(alloc), Vec::new(alloc), 1, Vec::new(alloc))

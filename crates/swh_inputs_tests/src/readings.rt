@@ -6,12 +6,12 @@ use Held::{Batch, Folder, Stream};
 use What::{File, Other};
 use std::test::Fail;
 use swh_base::{Kind, Memory, Name, Sha1Namer, Which};
+use swh_dedup::Objects;
 use swh_fastload::StreamWhy;
+use swh_ingest::Input as Given;
 use swh_inputs::{BadText, InputFault, read_input};
-use swh_made::Objects;
 use swh_object::Object;
 use swh_outside::What;
-use swh_walk::Input as Given;
 
 /// The kind of an object, and its id.
 type Id = (Kind, &'static [u8; 40]);

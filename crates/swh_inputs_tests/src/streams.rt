@@ -5,9 +5,9 @@ use std::alloc::{AllocError, Global};
 use std::test::Fail;
 use swh_base::{Bytes, Kind, Memory, Name, Sha1Namer};
 use swh_fastload::{StreamParts, StreamWhy, Window};
+use swh_ingest::Next;
 use swh_inputs::{BadText, InputFault, next_of_stream};
 use swh_memory_input::MemorySource;
-use swh_walk::Next;
 
 /// What comes behind the parts of a stream.
 #[derive(Clone, Copy)]

@@ -9,7 +9,7 @@ use Rattle.swh_base.specs.declared.visit.VisitKind.{VisitKind}
 use Rattle.swh_base.specs.declared.visit.VisitKind.TheVariants.{Fast, Dir, Batch}
 use Rattle.swh_base.proofs.Lacks.{passes_not}
 use Rattle.swh_base.proofs.Splits.{first_split, absent}
-use Rattle.swh_pieces.proofs.Middle.{in_middle}
+use Rattle.swh_base.proofs.Middle.{in_middle}
 use Rattle.swh_jobs.specs.Job.{Job, JobInput, Fields, HasNoFeed, IsJobPath, IsHeadText, IsJobInput, IsLineOf, fields, fields_of, fields_text, more_text, line_text}
 use Rattle.swh_jobs.specs.Job.JobInput.{StreamAt, FolderAt, BatchAt}
 use Rattle.swh_jobs.specs.Reading.{HasFields, IsInputOf}

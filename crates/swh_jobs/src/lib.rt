@@ -1,5 +1,6 @@
-//! Job files: which origins are loaded, and where their inputs stand: streams, folders with listings, and batches with refs.
-//! Stands on `swh_base` and `swh_pieces`.
+//! Job files: which origins are loaded, and where their inputs stand: streams, folders with listings, and batches with
+//! refs.
+//! Stands on `swh_base`.
 //! Callers may rely on: exactly the grammar is read, and a refusal names the first line that breaks and why.
 #![tactic(auto)]
 

@@ -11,8 +11,7 @@ ghost use Rattle.swh_jobs.specs.Spelled.{fields_cut, spelled_input, spelled_job}
 
 use crate::job::{SpelledInput, SpelledJob};
 use crate::limits::INPUT_PATH_LIMIT;
-use swh_base::{VisitKind, is_ref, is_url};
-use swh_pieces::{behind, split_at_byte};
+use swh_base::{VisitKind, behind, is_ref, is_url, split_at_byte};
 
 /// What stands between the TABs of a line, which is not looked at yet: the kind of the input, the URL, the path, and what
 /// stands behind that.

@@ -12,7 +12,7 @@ use crate::limits::JOBS_LIMIT;
 use crate::line::spelled_line;
 use std::alloc::Global;
 use std::collections::BTreeSet;
-use swh_pieces::split_at_byte;
+use swh_base::split_at_byte;
 
 // The line that bytes begin with, without its LF, and what stands after it.
 fn first_line(bytes: &[u8]) -> (&[u8], &[u8])

@@ -27,7 +27,7 @@ use Rattle.swh_format.specs.EventRecord.{packed_objects}
 use Rattle.swh_format.specs.Stands.{coded_runs}
 use Rattle.swh_format.proofs.KindLaws.{packed}
 use Rattle.swh_format.proofs.Lengths.{object-length, run-length, stored-length}
-use Rattle.swh_keeper.specs.declared.finding.Place.{Place}
+use Rattle.swh_keeper.specs.declared.finding.Extent.{Extent}
 use Rattle.swh_keeper.specs.Stored.{IsHeldNamed, IsHeldKind, body_in}
 use Rattle.swh_keeper.specs.Places.{IsPlaceIn, IsPlaceOf, IsUnnamed, AreUnnamed}
 use Rattle.swh_keeper.proofs.StoredLemmas.{part-append}
@@ -149,14 +149,14 @@ runs-split (f ∷ h) (suc k) e less is =
     ∙ ap (λ (n : ℕ). packed_objects e.what ++ coded_runs (drop n (f ∷ h))) (let z : suc (k + 1) ≡ suc k + 1 = omega arith in z)
 
 -- the object whose place was found: its body is held under the name, and stands there
-pub record IsFound (bodies : Bodies) (h : List Event) (n : Name) (p : Place) : Type 0 where
+pub record IsFound (bodies : Bodies) (h : List Event) (n : Name) (p : Extent) : Type 0 where
   pub body : List ℕ
   pub held : body_of bodies n ≡ Some body
   pub within : p.at + p.size ≤ store_length h
   pub long : p.size ≡ length body
   pub bytes : take p.size (drop p.at (coded_runs h)) ≡ body
 
-module _ (id_of : Kind → List ℕ → List ℕ) (bodies : Bodies) (h : List Event) (k : ℕ) (e : Event) (less : k < length h) (is : e ≡ get_or h k e) (n : Name) (p : Place) where
+module _ (id_of : Kind → List ℕ → List ℕ) (bodies : Bodies) (h : List Event) (k : ℕ) (e : Event) (less : k < length h) (is : e ≡ get_or h k e) (n : Name) (p : Extent) where
   found-kind : IsHeldKind id_of bodies e.what → IsPlaceIn (store_length (take k h)) (entries_of e.what) n p → IsFound bodies h n p
   found-kind held place =
       let es = entries_of e.what in
@@ -181,7 +181,7 @@ module _ (id_of : Kind → List ℕ → List ℕ) (bodies : Bodies) (h : List Ev
             ∙ part-there es place.number x place.within place.is;
       }
 
-pub found-at : (id_of : Kind → List ℕ → List ℕ) (a : Archive) (h : List Event) (n : Name) (p : Place) → MayAll id_of a h → IsPlaceOf h n p → IsFound (after_all a h).bodies h n p
+pub found-at : (id_of : Kind → List ℕ → List ℕ) (a : Archive) (h : List Event) (n : Name) (p : Extent) → MayAll id_of a h → IsPlaceOf h n p → IsFound (after_all a h).bodies h n p
 found-at id_of a h n p may place =
     found-kind id_of (after_all a h).bodies h place.number place.event place.within place.is n p
     (held-at id_of a h place.number place.event may place.within place.is) place.place

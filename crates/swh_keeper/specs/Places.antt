@@ -6,10 +6,10 @@ use Rattle.swh_base.specs.declared.entry.Entry.{Entry}
 use Rattle.swh_model.specs.declared.event.Event.{Event}
 use Rattle.swh_model.specs.Entries.{entries_of}
 use Rattle.swh_model.specs.Limits.{run_length, store_length}
-use Rattle.swh_keeper.specs.declared.finding.Place.{Place}
+use Rattle.swh_keeper.specs.declared.finding.Extent.{Extent}
 
 -- The place is that of the body of an object with this name in the run of these, which begins at a place.
-pub record IsPlaceIn (start : ℕ) (entries : List Entry) (n : Name) (p : Place) : Type 0 where
+pub record IsPlaceIn (start : ℕ) (entries : List Entry) (n : Name) (p : Extent) : Type 0 where
   pub number : ℕ
   pub entry : Entry
   pub within : number < length entries
@@ -19,7 +19,7 @@ pub record IsPlaceIn (start : ℕ) (entries : List Entry) (n : Name) (p : Place)
   pub size : p.size ≡ length entry.body
 
 -- The same of the runs of a history.
-pub record IsPlaceOf (h : List Event) (n : Name) (p : Place) : Type 0 where
+pub record IsPlaceOf (h : List Event) (n : Name) (p : Extent) : Type 0 where
   pub number : ℕ
   pub event : Event
   pub within : number < length h

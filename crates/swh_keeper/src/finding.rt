@@ -8,7 +8,7 @@ use swh_model::{Event, length_in_store};
 
 /// Where a body stands: at a place in bytes from 0, and how many bytes it has.
 #[derive(Clone, Copy)]
-pub struct Place {
+pub struct Extent {
     pub at: u64,
     pub size: usize,
 }
@@ -28,7 +28,7 @@ pub fn head_length(id: [u8; 20]) -> usize
 }
 
 /// The place of the body of a name in a run that begins at a place.
-fn place_in(entries: &[Entry], name: &Name, from: u64) -> Option<Place>
+fn place_in(entries: &[Entry], name: &Name, from: u64) -> Option<Extent>
     requires { from + run_length entries.now < 2 ^ 64 }
     ensures some { IfSome result (IsPlaceIn from entries.now name.now) }
     ensures none { IfNone result (IsUnnamed name.now entries.now) }
@@ -38,7 +38,7 @@ fn place_in(entries: &[Entry], name: &Name, from: u64) -> Option<Place>
         let body = at + head_length(entry.name.id) as u64;
         let size = entry.body.as_slice().len();
         if is_same(&entry.name, name) {
-            return Some(Place { at: body, size });
+            return Some(Extent { at: body, size });
         }
         at = body + size as u64;
     }
@@ -46,7 +46,7 @@ fn place_in(entries: &[Entry], name: &Name, from: u64) -> Option<Place>
 }
 
 /// The place of the body of a name among the runs of a history; none exactly where no batch has the name.
-pub fn place_of(history: &[Event], name: &Name) -> Option<Place>
+pub fn place_of(history: &[Event], name: &Name) -> Option<Extent>
     requires { store_length history.now < 2 ^ 64 }
     ensures some { IfSome result (IsPlaceOf history.now name.now) }
     ensures none { IfNone result (AreUnnamed name.now history.now) }

@@ -1,5 +1,6 @@
 //! Keeps an archive: two disks, and the replay of their history in memory.
-//! Stands on `swh_base`, `swh_outside`, `swh_segment`, `swh_model`, `swh_store`, `swh_visits`, `swh_replay` and `swh_plan`.
+//! Stands on `swh_base`, `swh_outside`, `swh_segment`, `swh_model`, `swh_store`, `swh_visits`, `swh_replay` and
+//! `swh_plan`.
 //! Callers may rely on: a plan is judged as the model says, and the disks stand for the history unless a disk failed.
 #![tactic(auto)]
 

@@ -1,5 +1,5 @@
-//! That an archive which this program made is never damaged: what its device calls and crashes leave of the two files is
-//! not made, or stands for a history.
+//! That an archive which this program made is never damaged: what its device calls and crashes leave of the two files
+//! is not made, or stands for a history.
 ghost use Rattle.std.specs.Prelude.{◌++◌, ◌∷◌, [], ℕ, List};
 ghost use Rattle.swh_base.specs.declared.kind.Kind.{Kind};
 ghost use Rattle.swh_outside.specs.Files.{Files, Images, AreImages, EachFilesMoment};

@@ -3,7 +3,7 @@ use Rattle.std.proofs.Common.{◌≡◌, ◌⊎◌, ℕ, suc, ◌+◌, ◌<◌, 
 use Rattle.swh_base.specs.Limits.{line_limit}
 use Rattle.swh_base.specs.declared.visit.Which.{Which}
 use Rattle.swh_base.specs.declared.visit.Which.TheVariants.{Body, Objects, Bytes, Store, Ledger, Stream, Line, Path, Ref, Refs}
-use Rattle.swh_pieces.proofs.Middle.{in_middle}
+use Rattle.swh_base.proofs.Middle.{in_middle}
 use Rattle.swh_base.proofs.Splits.{first_split}
 use Rattle.swh_listing.specs.declared.fault.ListingFault.{ListingFault}
 use Rattle.swh_listing.specs.declared.fault.ListingFault.TheVariants.{BadModes, Limit, ReadFault, Memory}
@@ -15,13 +15,13 @@ use Rattle.swh_listing.specs.Fault.{GoesOn, PassesListing, PassesLine, PassesNex
 use Rattle.swh_listing.proofs.Modes.{one_said, one_passed}
 
 -- a line that a longer front without LF would hold
-in_longer : (line before x y : List ℕ) → line ++ 10 ∷ x ≡ before ++ y → length line < length before → Contains before 10
+pub in_longer : (line before x y : List ℕ) → line ++ 10 ∷ x ≡ before ++ y → length line < length before → Contains before 10
 in_longer line [] x y e lt = absurd (omega (arith, lt))
 in_longer [] (c ∷ before) x y e lt = let here : c ≡ 10 = cc in (0, omega arith, here)
 in_longer (d ∷ line) (c ∷ before) x y e lt = let h = in_longer line before x y (cc) (omega (arith, lt)) in let l = h.1 in (suc h.0, omega (arith, l), h.2)
 
 -- the next line is one
-same_line : (at : ℕ) (text a b x y : List ℕ) → HasLine at text a x → HasLine at text b y → (a ≡ b) × (x ≡ y)
+pub same_line : (at : ℕ) (text a b x y : List ℕ) → HasLine at text a x → HasLine at text b y → (a ≡ b) × (x ≡ y)
 same_line at text a b x y h k = first_split 10 a b x y h.one_line k.one_line (sym h.cut ∙ k.cut)
 
 no_line_of_nil : (line rest : List ℕ) → [] ≡ line ++ 10 ∷ rest → ⊥

@@ -9,6 +9,7 @@ use Rattle.swh_fastlex.specs.declared.fault.LineFault.TheVariants.{Failed, End, 
 use Rattle.swh_listing.specs.declared.limits.TheConstants.{LISTING_LIMIT}
 use Rattle.swh_listing.specs.Listing.{HasLine, behind}
 use Rattle.swh_base.specs.declared.visit.Which.TheVariants.{Body, Objects, Bytes, Store, Ledger, Stream, Line, Path, Ref, Refs}
+use Rattle.swh_base.proofs.Elementary.{append_nil}
 use Rattle.swh_listing.specs.declared.fault.ListingFault.{ListingFault}
 use Rattle.swh_listing.specs.declared.fault.ListingFault.TheVariants.{BadModes, Limit, ReadFault, Memory}
 use Rattle.swh_listing.specs.Fault.{GoesOn, PassesListing, NextBreaks}
@@ -55,10 +56,6 @@ line_front line l = l.text ∙ ap (λ (t : List ℕ). t ++ 10 ∷ []) (sym (fron
 some_length : (xs : List ℕ) → xs ≢ [] → 0 < length xs
 some_length [] h = absurd (h refl)
 some_length (x ∷ xs) h = omega arith
-
-append_nil : (a : List ℕ) → a ++ [] ≡ a
-append_nil [] = refl
-append_nil (c ∷ a) = ap (λ (t : List ℕ). c ∷ t) (append_nil a)
 
 module _ (before now : Held) (left left_now : List ℕ) (count : ℕ) (start : before.place ≤ LISTING_LIMIT) where
   abbrev text : List ℕ

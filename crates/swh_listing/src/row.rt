@@ -6,9 +6,9 @@ ghost use Rattle.swh_listing.specs.Line.{BeginsMode, SaysListed, PassesPathIn};
 
 use crate::listed::{Listed, Mode};
 use std::alloc::{AllocError, Global};
+use swh_base::{behind, split_at_byte};
 use swh_fastlex::{Word, path_word};
 use swh_fastlines::id_of;
-use swh_pieces::{behind, split_at_byte};
 
 /// What follows the mode of a project's revision and a space: its id, and what comes after that and a space.
 fn project_front(text: &[u8]) -> Option<(Mode, &[u8])>

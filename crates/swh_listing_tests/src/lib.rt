@@ -1,5 +1,5 @@
 //! Tests of modes listings over sources in memory: lines, pieces, limits, and sources that fail.
-//! Stands on `swh_base`, `swh_outside`, `swh_memory_input`, `swh_repeated_input`, `swh_fastlex` and `swh_listing`.
+//! Stands on `swh_base`, `swh_outside`, `swh_memory_input`, `swh_memory_repeated`, `swh_fastlex` and `swh_listing`.
 //! Nothing stands above it.
 #![tactic(auto)]
 

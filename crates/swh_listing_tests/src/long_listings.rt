@@ -5,8 +5,8 @@ use std::test::Fail;
 use swh_base::Which;
 use swh_fastlex::Window;
 use swh_listing::{LISTING_LIMIT, ListingFault, Mode, next_listed};
+use swh_memory_repeated::RepeatedSource;
 use swh_outside::{Failed, Source};
-use swh_repeated_input::RepeatedSource;
 
 /// How many bytes may stand behind a place, what stands there, and a letter so often; and whether a line is read there, or what
 /// is told.

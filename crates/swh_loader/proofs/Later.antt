@@ -16,9 +16,9 @@ use Rattle.swh_model.proofs.Growing.{bodies_grow, visits_grow}
 use Rattle.swh_model.proofs.Histories.{fronts}
 use Rattle.swh_model.proofs.Visits.{all-map}
 use Rattle.swh_inputs.specs.Input.{InputText}
-use Rattle.swh_walk.specs.Owning.{Attempt}
-use Rattle.swh_walk.specs.Sending.{IsHeldWhole}
-use Rattle.swh_walk.specs.Visiting.{IsVisit, next_visit, visit_with}
+use Rattle.swh_ingest.specs.Owning.{Attempt}
+use Rattle.swh_ingest.specs.Sending.{IsHeldWhole}
+use Rattle.swh_ingest.specs.Visiting.{IsVisit, next_visit, visit_with}
 use Rattle.swh_loader.specs.Ending.{IsFull, Collided, statuses_of}
 use Rattle.swh_loader.specs.declared.end.End.{End}
 use Rattle.swh_loader.specs.declared.end.End.TheVariants.{Full, NotFound, Failed}

@@ -10,18 +10,18 @@ use Rattle.swh_base.specs.Limits.{path_limit}
 use Rattle.swh_outside.specs.declared.fault.Opened.{Opened}
 use Rattle.swh_outside.specs.declared.fault.Opened.TheVariants as opened
 use Rattle.swh_model.specs.Archive.{Bodies}
-use Rattle.swh_made.specs.declared.objects.Objects.{Objects}
-use Rattle.swh_made.specs.Whole.{HasAllThatIsReached}
+use Rattle.swh_dedup.specs.declared.objects.Objects.{Objects}
+use Rattle.swh_dedup.specs.Whole.{HasAllThatIsReached}
 use Rattle.swh_fastload.specs.Loaded.{making_of}
-use Rattle.swh_walk.specs.declared.end.End as walk
-use Rattle.swh_walk.specs.declared.end.End.TheVariants.{Full, NotFound, Unread, Bad, Met}
-use Rattle.swh_walk.specs.declared.input.Input.{Input as Given}
-use Rattle.swh_walk.specs.declared.input.Input.TheVariants as given
-use Rattle.swh_walk.specs.declared.input.Opening.{Opening}
-use Rattle.swh_walk.specs.declared.input.Opening.TheVariants as opening
-use Rattle.swh_walk.specs.Loading as walking
-use Rattle.swh_walk.specs.Owning.{AreAmong}
-use Rattle.swh_walk.proofs.Closes.{whole_good}
+use Rattle.swh_ingest.specs.declared.end.End as walk
+use Rattle.swh_ingest.specs.declared.end.End.TheVariants.{Full, NotFound, Unread, Bad, Met}
+use Rattle.swh_ingest.specs.declared.input.Input.{Input as Given}
+use Rattle.swh_ingest.specs.declared.input.Input.TheVariants as given
+use Rattle.swh_ingest.specs.declared.input.Opening.{Opening}
+use Rattle.swh_ingest.specs.declared.input.Opening.TheVariants as opening
+use Rattle.swh_ingest.specs.Loading as walking
+use Rattle.swh_ingest.specs.Owning.{AreAmong}
+use Rattle.swh_ingest.proofs.Closes.{whole_good}
 use Rattle.swh_inputs.specs.Input.{InputText, MeansInput, MayBreakInput}
 use Rattle.swh_inputs.specs.Opening.{kind_of, opening_of}
 use Rattle.swh_inputs.specs.Parts.{Parts, text_of, IsQuiet, IsQuietOf, IsSameInput, IsSamePart, IsSameListing, IsSameSource, IsSameFolder}

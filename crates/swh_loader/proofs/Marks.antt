@@ -16,11 +16,11 @@ use Rattle.swh_model.specs.Step.{first_of, opened, marked, marked_at, with_statu
 use Rattle.swh_base.specs.Visit.{Statuses}
 use Rattle.swh_model.proofs.Histories.{fronts}
 use Rattle.swh_model.proofs.Maps.{visits-put}
-use Rattle.swh_walk.specs.Loading.{IsOwn}
-use Rattle.swh_walk.specs.Owning.{Attempt, open_event, marks_in, marks_of}
-use Rattle.swh_walk.specs.Visiting.{IsVisit, next_visit, visit_with}
-use Rattle.swh_walk.proofs.Marks.{get-last, get-marked_self, one_less}
-use Rattle.swh_alone.specs.Loading.{AddsVisit, AreOfVisit, IsOwnEvent}
+use Rattle.swh_ingest.specs.Loading.{IsOwn}
+use Rattle.swh_ingest.specs.Owning.{Attempt, open_event, marks_in, marks_of}
+use Rattle.swh_ingest.specs.Visiting.{IsVisit, next_visit, visit_with}
+use Rattle.swh_ingest.proofs.Marks.{get-last, get-marked_self, one_less}
+use Rattle.swh_keeperload.specs.Loading.{AddsVisit, AreOfVisit, IsOwnEvent}
 use Rattle.swh_loader.specs.Ending.{statuses_of}
 use Rattle.swh_loader.specs.declared.end.End.{End}
 use Rattle.swh_loader.specs.declared.end.End.TheVariants as ending

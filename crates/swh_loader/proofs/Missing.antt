@@ -12,7 +12,7 @@ use Rattle.swh_model.specs.Limits.{object_length, run_length}
 use Rattle.swh_model.specs.Meaning.{Made}
 use Rattle.swh_model.specs.Step.{AreNew, added}
 use Rattle.swh_model.proofs.Maps.{body-put, body_cases}
-use Rattle.swh_made.specs.Making.{made_from}
+use Rattle.swh_dedup.specs.Making.{made_from}
 use Rattle.swh_loader.specs.Room.{batch_record, stored_object}
 
 -- a size where no body is held, and nothing where one is

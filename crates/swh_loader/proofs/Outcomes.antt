@@ -9,18 +9,18 @@ use Rattle.swh_outside.specs.Views.{Disks}
 use Rattle.swh_model.specs.declared.event.Event.{Event}
 use Rattle.swh_keeper.specs.Calls.{MakesCallsOf}
 use Rattle.swh_keeper.specs.Kept.{Kept}
-use Rattle.swh_walk.specs.declared.end.End as walk
-use Rattle.swh_walk.specs.declared.end.Loaded.{Loaded}
-use Rattle.swh_walk.specs.declared.end.LoadFault.{LoadFault}
-use Rattle.swh_walk.specs.declared.input.Input.{Input as Given}
-use Rattle.swh_walk.specs.declared.input.Input.TheVariants as given
-use Rattle.swh_walk.specs.declared.stop.Stop.TheVariants.{Memory}
-use Rattle.swh_walk.specs.Loading as walking
-use Rattle.swh_walk.specs.Owning.{Attempt}
-use Rattle.swh_walk.specs.Visiting.{next_visit}
-use Rattle.swh_alone.specs.Loading.{AddsVisit, AreOfVisit, EndsVisit, IsHeldBack, MakesVisitCalls, NoCountFell, Stops}
-use Rattle.swh_alone.proofs.Allowing.{adds_visit, visit_calls, stops_as}
-use Rattle.swh_alone.proofs.Calls.{same_calls}
+use Rattle.swh_ingest.specs.declared.end.End as walk
+use Rattle.swh_ingest.specs.declared.end.Loaded.{Loaded}
+use Rattle.swh_ingest.specs.declared.end.LoadFault.{LoadFault}
+use Rattle.swh_ingest.specs.declared.input.Input.{Input as Given}
+use Rattle.swh_ingest.specs.declared.input.Input.TheVariants as given
+use Rattle.swh_ingest.specs.declared.stop.Stop.TheVariants.{Memory}
+use Rattle.swh_ingest.specs.Loading as walking
+use Rattle.swh_ingest.specs.Owning.{Attempt}
+use Rattle.swh_ingest.specs.Visiting.{next_visit}
+use Rattle.swh_keeperload.specs.Loading.{AddsVisit, AreOfVisit, EndsVisit, IsHeldBack, MakesVisitCalls, NoCountFell, Stops}
+use Rattle.swh_keeperload.proofs.Allowing.{adds_visit, visit_calls, stops_as}
+use Rattle.swh_keeperload.proofs.Calls.{same_calls}
 use Rattle.swh_inputs.specs.Opening.{opening_of}
 use Rattle.swh_inputs.specs.Parts.{Parts, IsQuiet, IsSameInput}
 use Rattle.swh_inputs.specs.Reading.{IsRead}

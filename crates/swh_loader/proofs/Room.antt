@@ -27,10 +27,10 @@ use Rattle.swh_model.proofs.Entries.{none-empty}
 use Rattle.swh_model.proofs.Histories.{fronts}
 use Rattle.swh_model.proofs.Maps.{added-all}
 use Rattle.swh_model.proofs.Visits.{all-map}
-use Rattle.swh_walk.specs.Loading.{IsOwn}
-use Rattle.swh_walk.specs.Owning.{Attempt}
-use Rattle.swh_walk.specs.Visiting.{next_visit}
-use Rattle.swh_alone.specs.Loading.{AddsVisit, AreOfVisit, IsOwnEvent}
+use Rattle.swh_ingest.specs.Loading.{IsOwn}
+use Rattle.swh_ingest.specs.Owning.{Attempt}
+use Rattle.swh_ingest.specs.Visiting.{next_visit}
+use Rattle.swh_keeperload.specs.Loading.{AddsVisit, AreOfVisit, IsOwnEvent}
 use Rattle.swh_loader.specs.Room.{longest_record, batch_record, ledger_growth, stored_object, store_growth}
 use Rattle.swh_loader.proofs.Missing.{IsMadeOf, missing, missing-most, added_all, run_size, of_batch, some_size}
 use Rattle.swh_segment.proofs.Moments.{codable_front}

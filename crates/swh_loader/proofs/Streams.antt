@@ -12,17 +12,17 @@ use Rattle.swh_model.specs.Archive.{Bodies}
 use Rattle.swh_object.specs.Object.{IsObject}
 use Rattle.swh_fastload.specs.Giving.{GoesOn, StreamState}
 use Rattle.swh_keeper.specs.Kept.{Kept}
-use Rattle.swh_walk.specs.declared.end.End as walk
-use Rattle.swh_walk.specs.declared.end.End.TheVariants.{Full, NotFound, Unread, Bad, Met}
-use Rattle.swh_walk.specs.declared.end.Loaded.{Loaded}
-use Rattle.swh_walk.specs.declared.end.LoadFault.{LoadFault}
-use Rattle.swh_walk.specs.declared.input.Opening.TheVariants.{Found}
-use Rattle.swh_walk.specs.declared.parts.Next.{Next}
-use Rattle.swh_walk.specs.Loading.{statuses_of}
-use Rattle.swh_walk.specs.Owning.{Attempt}
-use Rattle.swh_walk.specs.Parts as walking
-use Rattle.swh_walk.proofs.Closes.{whole_good}
-use Rattle.swh_alone.specs.Loading.{AddsVisit, EndsVisit, IsHeldBack, MakesVisitCalls, NoCountFell, Stops}
+use Rattle.swh_ingest.specs.declared.end.End as walk
+use Rattle.swh_ingest.specs.declared.end.End.TheVariants.{Full, NotFound, Unread, Bad, Met}
+use Rattle.swh_ingest.specs.declared.end.Loaded.{Loaded}
+use Rattle.swh_ingest.specs.declared.end.LoadFault.{LoadFault}
+use Rattle.swh_ingest.specs.declared.input.Opening.TheVariants.{Found}
+use Rattle.swh_ingest.specs.declared.parts.Next.{Next}
+use Rattle.swh_ingest.specs.Loading.{statuses_of}
+use Rattle.swh_ingest.specs.Owning.{Attempt}
+use Rattle.swh_ingest.specs.Parts as walking
+use Rattle.swh_ingest.proofs.Closes.{whole_good}
+use Rattle.swh_keeperload.specs.Loading.{AddsVisit, EndsVisit, IsHeldBack, MakesVisitCalls, NoCountFell, Stops}
 use Rattle.swh_inputs.specs.Input.{InputText}
 use Rattle.swh_inputs.specs.Input.InputText.{StreamText}
 use Rattle.swh_inputs.specs.Parts.{Parts, IsSameInput}

@@ -8,15 +8,15 @@ use Rattle.swh_base.specs.declared.visit.Status.TheVariants.{Ongoing, Full as Fu
 use Rattle.swh_base.specs.Visit.{Statuses}
 use Rattle.swh_model.specs.Archive.{Bodies}
 use Rattle.swh_model.specs.Step.{HasItsChildrenAndName, replay}
-use Rattle.swh_made.specs.Making.{made}
+use Rattle.swh_dedup.specs.Making.{made}
 use Rattle.swh_keeper.specs.Kept.{Kept}
-use Rattle.swh_walk.specs.declared.end.End as walk
-use Rattle.swh_walk.specs.declared.end.Loaded.{Loaded as WalkLoaded}
-use Rattle.swh_walk.specs.declared.end.LoadFault.{LoadFault}
-use Rattle.swh_walk.specs.declared.end.End.TheVariants as walked
-use Rattle.swh_walk.specs.declared.input.Opening.{Opening}
-use Rattle.swh_walk.specs.declared.input.Opening.TheVariants as opening
-use Rattle.swh_walk.specs.Sending.{AllHeld, IsMet}
+use Rattle.swh_ingest.specs.declared.end.End as walk
+use Rattle.swh_ingest.specs.declared.end.Loaded.{Loaded as WalkLoaded}
+use Rattle.swh_ingest.specs.declared.end.LoadFault.{LoadFault}
+use Rattle.swh_ingest.specs.declared.end.End.TheVariants as walked
+use Rattle.swh_ingest.specs.declared.input.Opening.{Opening}
+use Rattle.swh_ingest.specs.declared.input.Opening.TheVariants as opening
+use Rattle.swh_ingest.specs.Sending.{AllHeld, IsMet}
 use Rattle.swh_inputs.specs.Input.{InputText, MeansInput}
 use Rattle.swh_inputs.specs.Streaming.{MayGiveInput}
 use Rattle.swh_inputs.specs.Opening.{opening_of}

@@ -19,9 +19,9 @@ use Rattle.swh_loader.specs.declared.end.BadInput.TheVariants.{Broken, Collision
 use Rattle.swh_loader.specs.declared.end.End.{End}
 use Rattle.swh_loader.specs.declared.end.End.TheVariants.{Full, NotFound, Failed}
 use Rattle.swh_loader.specs.declared.end.Loaded.{Loaded}
-use Rattle.swh_walk.specs.declared.stop.Stop.{Stop}
-use Rattle.swh_walk.specs.declared.stop.Stop.TheVariants.{Ended, DiskFault, Wounded, Limit, Memory}
-use Rattle.swh_walk.specs.declared.end.LoadFault.{LoadFault}
+use Rattle.swh_ingest.specs.declared.stop.Stop.{Stop}
+use Rattle.swh_ingest.specs.declared.stop.Stop.TheVariants.{Ended, DiskFault, Wounded, Limit, Memory}
+use Rattle.swh_ingest.specs.declared.end.LoadFault.{LoadFault}
 
 -- what is wrong with a stream, as a line says it
 abbrev pub stream_why_word : StreamWhy → List ℕ

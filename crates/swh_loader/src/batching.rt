@@ -5,8 +5,8 @@ ghost use Rattle.swh_base.specs.declared.visit.VisitKind.TheVariants.{Batch};
 ghost use Rattle.swh_outside.specs.Views.{disks, sources};
 ghost use Rattle.swh_outside.specs.declared.fault.Opened.TheVariants.{Found as Here};
 ghost use Rattle.swh_batchread.specs.Giving.{GoesOn, IsAtStart};
-ghost use Rattle.swh_walk.specs.Owning.{attempt};
-ghost use Rattle.swh_walk.specs.Parts.{IsMore};
+ghost use Rattle.swh_ingest.specs.Owning.{attempt};
+ghost use Rattle.swh_ingest.specs.Parts.{IsMore};
 ghost use Rattle.swh_inputs.specs.Batching.{AreQuiet, BatchCameOn, BatchMayGoOn, IsNextFault, IsNextOfBatch};
 ghost use Rattle.swh_inputs.specs.Parts.{folders, parts, IsSameSource};
 ghost use Rattle.swh_inputs.specs.declared.input.Input.TheVariants.{Batch as BatchPair};
@@ -15,15 +15,15 @@ ghost use Rattle.swh_loader.specs.Leaving.{IsLoadOf};
 use crate::end::Loaded;
 use crate::outcome::outcome_of;
 use std::alloc::Global;
-use swh_alone::load_kept_parts;
 use swh_base::{Memory, Name, Namer, Shared, Url, VisitKind};
 use swh_batchread::BatchParts;
 use swh_fastlex::Window;
 use swh_fastread::Lent;
+use swh_ingest::{ByParts, Job, LoadFault, Next, Opening, Stop, Turn};
 use swh_inputs::{BatchByParts, BatchInput, InputFault, next_of_batch};
 use swh_keeper::Keeper;
+use swh_keeperload::load_kept_parts;
 use swh_outside::{Disk, Folder, Gate, Source};
-use swh_walk::{ByParts, Job, LoadFault, Next, Opening, Stop, Turn};
 
 /// An origin whose input is a batch, and when it is loaded.
 #[derive(Drop)]

@@ -1,10 +1,10 @@
 // One load: what a job's input is, and how the visit ends.
 ghost use Rattle.std.specs.Prelude.{◌≡◌, ◌≤◌, Some, ℕ, IfOk, IfErr};
 ghost use Rattle.swh_outside.specs.Views.{disks, sources};
-ghost use Rattle.swh_walk.specs.declared.input.Opening.TheVariants.{Found};
-ghost use Rattle.swh_walk.specs.Loading.{IsWhole};
-ghost use Rattle.swh_walk.specs.Owning.{attempt};
-ghost use Rattle.swh_alone.specs.Loading.{AddsVisit, EndsVisit, IsHeldBack, MakesVisitCalls, NoCountFell, Stops};
+ghost use Rattle.swh_ingest.specs.declared.input.Opening.TheVariants.{Found};
+ghost use Rattle.swh_ingest.specs.Loading.{IsWhole};
+ghost use Rattle.swh_ingest.specs.Owning.{attempt};
+ghost use Rattle.swh_keeperload.specs.Loading.{AddsVisit, EndsVisit, IsHeldBack, MakesVisitCalls, NoCountFell, Stops};
 ghost use Rattle.swh_inputs.specs.Opening.{kind_of, opening_of};
 ghost use Rattle.swh_inputs.specs.Parts.{HasGoodHead, IsQuiet, IsSameInput, folders, parts};
 ghost use Rattle.swh_inputs.specs.Reading.{IsRead, IsReadFault};
@@ -18,12 +18,12 @@ use crate::job::Job;
 use crate::outcome::outcome_of;
 use crate::streaming::{StreamJob, load_stream};
 use std::alloc::Global;
-use swh_alone::load_kept;
 use swh_base::{Memory, Namer};
+use swh_ingest::{self as walk, ByCall, LoadFault, Turn};
 use swh_inputs::{Input, InputFault, read_input};
 use swh_keeper::Keeper;
+use swh_keeperload::load_kept;
 use swh_outside::{Disk, Folder, Gate, Opened, Source};
-use swh_walk::{self as walk, ByCall, LoadFault, Turn};
 
 /// Loads the input of an origin, which is read at once, as a new visit of it.
 fn load_at_once<N: Namer, D: Disk, S: Source, F: Folder, G: Gate>(

@@ -3,8 +3,8 @@ ghost use Rattle.std.specs.Prelude.{◌≡◌};
 ghost use Rattle.swh_loader.specs.Ending.{end_for, outcome_for};
 
 use crate::end::{BadInput, End, Loaded};
+use swh_ingest::{self as walk, LoadFault};
 use swh_inputs::InputFault;
-use swh_walk::{self as walk, LoadFault};
 
 /// The end of a visit, as it is reported.
 fn end_of(end: walk::End<InputFault>) -> End

@@ -7,7 +7,7 @@ use crate::detail::put_bad_text;
 use crate::end::{BadInput, End, Loaded};
 use crate::writing::{put, put_core, put_number};
 use swh_base::{Kind, Name, PATH_LIMIT, Url, VisitKind};
-use swh_walk::{LoadFault, Stop};
+use swh_ingest::{LoadFault, Stop};
 
 /// The most bytes of a line beside its detail: a URL of 2,048, a number of 20 and a status of 9, with a TAB after each, and
 /// an LF at the end.

@@ -6,8 +6,8 @@ ghost use Rattle.swh_base.specs.declared.visit.VisitKind.TheVariants.{Fast};
 ghost use Rattle.swh_outside.specs.Views.{disks, sources};
 ghost use Rattle.swh_outside.specs.declared.fault.Opened.TheVariants.{Found as Here};
 ghost use Rattle.swh_fastload.specs.Giving.{GoesOn};
-ghost use Rattle.swh_walk.specs.Owning.{attempt};
-ghost use Rattle.swh_walk.specs.Parts.{IsMore};
+ghost use Rattle.swh_ingest.specs.Owning.{attempt};
+ghost use Rattle.swh_ingest.specs.Parts.{IsMore};
 ghost use Rattle.swh_inputs.specs.Parts.{folders, parts};
 ghost use Rattle.swh_inputs.specs.Streaming.{CameOn, IsNextOf, MayGoOn};
 ghost use Rattle.swh_inputs.specs.declared.input.Input.TheVariants.{Fast as FastInput};
@@ -16,15 +16,15 @@ ghost use Rattle.swh_loader.specs.Leaving.{IsLoadOf};
 use crate::end::Loaded;
 use crate::outcome::outcome_of;
 use std::alloc::Global;
-use swh_alone::load_kept_parts;
 use swh_base::{Bytes, Memory, Name, Namer, Shared, Url, VisitKind};
 use swh_fastlex::Window;
 use swh_fastload::StreamParts;
 use swh_fastread::Lent;
+use swh_ingest::{ByParts, Job, LoadFault, Next, Opening, Stop, Turn};
 use swh_inputs::{InputFault, StreamByParts, next_of_stream};
 use swh_keeper::Keeper;
+use swh_keeperload::load_kept_parts;
 use swh_outside::{Disk, Folder, Gate, Source};
-use swh_walk::{ByParts, Job, LoadFault, Next, Opening, Stop, Turn};
 
 /// An origin whose input is a stream, the head that is named for the stream, or none, and when it is loaded.
 #[derive(Drop)]

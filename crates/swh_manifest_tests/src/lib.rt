@@ -1,4 +1,5 @@
-//! Tests of the manifests: published ids and what git wrote, read and written again, and each way in which a body breaks.
+//! Tests of the manifests: published ids and what git wrote, read and written again, and each way in which a body
+//! breaks.
 //! Stands on the readers and writers of manifests, and on the objects that are made of them.
 //! Nothing stands above it.
 #![tactic(auto)]

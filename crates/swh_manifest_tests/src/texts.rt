@@ -1,10 +1,9 @@
 // Ids as text, refs, persons, numbers, URLs, escapes and pieces.
 use std::test::Fail;
 use swh_base::{
-    Kind, Name, Url, UrlFault, are_digits, escape, is_digit, is_lower_hex_digit, is_person, is_ref,
-    is_url, number_of,
+    Kind, Name, Url, UrlFault, are_digits, behind, escape, is_digit, is_lower_hex_digit, is_person,
+    is_ref, is_url, number_of, split_at_byte,
 };
-use swh_pieces::{behind, split_at_byte};
 
 const ID: [u8; 40] = *b"e69de29bb2d1d6434b8b29ae775ad8c2e48c5391";
 

@@ -7,28 +7,28 @@ use Rattle.swh_outside.specs.Files.{absent}
 use Rattle.swh_outside.specs.Firsts.{first_or}
 use Rattle.swh_memory_disk.specs.Memory.{memory_file, DiskNotes, notes_of, new_notes}
 use Rattle.swh_memory_failures.specs.Tally.{Tally, is_next_listed}
-use Rattle.swh_memory_disk.specs.declared.place.Place.{Place}
+use Rattle.swh_memory_disk.specs.declared.depot_file.DepotFile.{DepotFile}
 use Rattle.swh_memory_disk.specs.declared.depot.MemoryDepot.{MemoryDepot}
 use Rattle.swh_memory_disk.specs.declared.record.Room.{Room}
 
 -- it is the place of this file
-abbrev pub is_at : List ℕ → ℕ → Place → Bool
+abbrev pub is_at : List ℕ → ℕ → DepotFile → Bool
 is_at dir file place = nat_eq place.file file && bytes_eq (string_bytes place.dir) dir
 
 -- the file of a place
-abbrev pub file_at : Place → File
+abbrev pub file_at : DepotFile → File
 file_at place = memory_file place.disk
 
 -- the file at the first place that it has, or an empty one
-abbrev pub files_in : List Place → List ℕ → ℕ → File
+abbrev pub files_in : List DepotFile → List ℕ → ℕ → File
 files_in places dir file = first_or (is_at dir file) file_at absent places
 
 -- what is kept of the disk at a place
-abbrev pub notes_at : Place → DiskNotes
+abbrev pub notes_at : DepotFile → DiskNotes
 notes_at place = notes_of place.disk
 
 -- what is kept of the disk at the first place that it has, or of a new one of this room
-abbrev pub notes_in : Room → List Place → List ℕ → ℕ → DiskNotes
+abbrev pub notes_in : Room → List DepotFile → List ℕ → ℕ → DiskNotes
 notes_in room places dir file = first_or (is_at dir file) notes_at (new_notes room) places
 
 -- what is kept of every disk but one's is as before

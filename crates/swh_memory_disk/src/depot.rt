@@ -1,5 +1,5 @@
 // Folders of files in memory.
-use crate::place::Place;
+use crate::depot_file::DepotFile;
 use crate::places::{add_place, find_place, read_place, swap_disk};
 use crate::{MemoryDisk, Room};
 use std::alloc::{AllocError, Global};
@@ -12,7 +12,7 @@ use swh_outside::{Depot, OutFault};
 pub struct MemoryDepot {
     alloc: Global,
     room: Room,
-    places: Vec<Place>,
+    places: Vec<DepotFile>,
     failures: Failures,
 }
 

@@ -6,9 +6,9 @@
 #![tactic(auto)]
 
 mod depot;
+mod depot_file;
 mod disk;
 mod past;
-mod place;
 mod places;
 mod ranges;
 mod record;

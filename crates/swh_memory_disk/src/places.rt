@@ -8,12 +8,12 @@ ghost use Rattle.swh_memory_disk.specs.InPlace.{is_at, files_in, notes_in, SameN
 ghost use Rattle.swh_memory_disk.specs.declared.record.Room.{Room};
 
 use crate::MemoryDisk;
-use crate::place::Place;
+use crate::depot_file::DepotFile;
 use std::alloc::{AllocError, Global};
 use std::mem;
 
 // The place of a file, or the number of places.
-pub fn find_place(places: &[Place], dir: &str, file: u32) -> usize
+pub fn find_place(places: &[DepotFile], dir: &str, file: u32) -> usize
     ensures first { result ≡ position_or_len (is_at dir.now file) places.now }
     ensures within { result ≤ length places.now }
 {
@@ -26,7 +26,7 @@ pub fn find_place(places: &[Place], dir: &str, file: u32) -> usize
 }
 
 // What a read gives of the file at its first place.
-pub fn read_place<'a>(places: &'a [Place], i: usize, dir: &str, file: u32) -> &'a [u8]
+pub fn read_place<'a>(places: &'a [DepotFile], i: usize, dir: &str, file: u32) -> &'a [u8]
     requires found { i ≡ position_or_len (is_at dir.now file) places.now }
     requires inside { i < length places.now }
     ensures { result.now ≡ (files_in places.now dir.now file).seen }
@@ -36,7 +36,7 @@ pub fn read_place<'a>(places: &'a [Place], i: usize, dir: &str, file: u32) -> &'
 
 // Puts a disk into a file's place, and gives the one that was there.
 pub fn swap_disk(
-    places: &mut [Place],
+    places: &mut [DepotFile],
     i: usize,
     disk: MemoryDisk,
     dir: &str,
@@ -60,7 +60,7 @@ pub fn swap_disk(
 // Adds a place with an empty disk for a file that has none.
 pub fn add_place(
     alloc: Global,
-    places: &mut Vec<Place>,
+    places: &mut Vec<DepotFile>,
     dir: &str,
     file: u32,
     disk: MemoryDisk,
@@ -76,7 +76,7 @@ pub fn add_place(
         → position_or_len (is_at d n) places.new.items < length places.new.items }
 {
     let name = String::from_str(alloc, dir)?;
-    places.push(Place {
+    places.push(DepotFile {
         dir: name,
         file,
         disk,

@@ -20,9 +20,9 @@ use Rattle.swh_outside.specs.Listing.{listed}
 use Rattle.swh_outside.specs.declared.folder.Item.{Item}
 use Rattle.swh_outside.proofs.FirstsLaws.{first_of, first_or-at, first_or-none}
 use Rattle.swh_memory_input.specs.Folders.{is_place_at, standing_of, tree_of, entries_of, making_of, making_at, MayList}
-use Rattle.swh_memory_input.specs.declared.place.Stands.{Stands}
-use Rattle.swh_memory_input.specs.declared.place.Stands.TheVariants.{File, Folder}
-use Rattle.swh_memory_input.specs.declared.place.Place.{Place}
+use Rattle.swh_memory_input.specs.declared.path_item.Stands.{Stands}
+use Rattle.swh_memory_input.specs.declared.path_item.Stands.TheVariants.{File, Folder}
+use Rattle.swh_memory_input.specs.declared.path_item.PathItem.{PathItem}
 
 same_test : (a b : List ℕ) → is_eq (slice_cmp nat_cmp b a) ≡ bytes_eq a b
 same_test a b = is_eq-slice_cmp b a ∙ turned a b
@@ -30,10 +30,10 @@ same_test a b = is_eq-slice_cmp b a ∙ turned a b
     turned : (a b : List ℕ) → bytes_eq b a ≡ bytes_eq a b
     turned a b = let d = bytes_eq-Decides a b in same_from_decides (bytes_eq b a) (bytes_eq a b) (bytes_eq-Decides b a) (λ e. sym (d.0 e), λ e. d.1 (sym e))
 
-pub standing_at : List Place → List ℕ → Option Standing
+pub standing_at : List PathItem → List ℕ → Option Standing
 standing_at places path = first_or (is_place_at path) (λ place. Some (standing_of place.stands)) None places
 
-pub tree-get : (places : List Place) (path : List ℕ) → finite.get (tree_of places) path ≡ standing_at places path
+pub tree-get : (places : List PathItem) (path : List ℕ) → finite.get (tree_of places) path ≡ standing_at places path
 unfolding standing_at
 tree-get [] path = finite.get-empty (slice_cmp nat_cmp) path
 tree-get (place ∷ places) path =
@@ -42,17 +42,17 @@ tree-get (place ∷ places) path =
     ∙ ap (λ (s : Option Standing). cond (is_place_at path place) (Some (standing_of place.stands)) s) (tree-get places path)
 
 -- what stands at the first place of a path
-pub tree-at : (places : List Place) (path : List ℕ) (i : ℕ) (place : Place) → i ≡ position_or_len (is_place_at path) places → i < length places → finite.get (tree_of places) path ≡ Some (standing_of (get_or places i place).stands)
+pub tree-at : (places : List PathItem) (path : List ℕ) (i : ℕ) (place : PathItem) → i ≡ position_or_len (is_place_at path) places → i < length places → finite.get (tree_of places) path ≡ Some (standing_of (get_or places i place).stands)
 unfolding standing_at
 tree-at places path i place found inside =
-    tree-get places path ∙ first_or-at (is_place_at path) (λ (p : Place). Some (standing_of p.stands)) None places i place (first_of (is_place_at path) places i place found inside)
+    tree-get places path ∙ first_or-at (is_place_at path) (λ (p : PathItem). Some (standing_of p.stands)) None places i place (first_of (is_place_at path) places i place found inside)
 
 -- nothing stands where no place is
-pub tree-none : (places : List Place) (path : List ℕ) → position_or_len (is_place_at path) places ≡ length places → finite.get (tree_of places) path ≡ None
+pub tree-none : (places : List PathItem) (path : List ℕ) → position_or_len (is_place_at path) places ≡ length places → finite.get (tree_of places) path ≡ None
 unfolding standing_at
 tree-none [] path none = finite.get-empty (slice_cmp nat_cmp) path
 tree-none (p ∷ places) path none =
-    tree-get (p ∷ places) path ∙ first_or-none (is_place_at path) (λ (q : Place). Some (standing_of q.stands)) None (p ∷ places) p (λ k h. fails_before_first (is_place_at path) (p ∷ places) k p (omega (arith, none, h)))
+    tree-get (p ∷ places) path ∙ first_or-none (is_place_at path) (λ (q : PathItem). Some (standing_of q.stands)) None (p ∷ places) p (λ k h. fails_before_first (is_place_at path) (p ∷ places) k p (omega (arith, none, h)))
 
 -- the names of items are those of their entries
 pub names-same : (items : List Item) → map (λ entry. entry.name) (entries_of items) ≡ names_of items
@@ -62,7 +62,7 @@ names-same (i ∷ items) = ap (λ (names : List (List ℕ)). string_bytes i.name
 pub names-equal : (a b : List Item) → entries_of a ≡ entries_of b → names_of a ≡ names_of b
 names-equal a b e = sym (names-same a) ∙ ap (λ (entries : List FolderEntry). map (λ entry. entry.name) entries) e ∙ names-same b
 
-module _ (places : List Place) (path : List ℕ) (i : ℕ) (place : Place) (found : i ≡ position_or_len (is_place_at path) places) (inside : i < length places) where
+module _ (places : List PathItem) (path : List ℕ) (i : ℕ) (place : PathItem) (found : i ≡ position_or_len (is_place_at path) places) (inside : i < length places) where
   there : (stands : Stands) → (get_or places i place).stands ≡ stands → finite.get (tree_of places) path ≡ Some (standing_of stands)
   there stands e = tree-at places path i place found inside ∙ ap (λ (s : Stands). Some (standing_of s)) e
 
@@ -72,7 +72,7 @@ module _ (places : List Place) (path : List ℕ) (i : ℕ) (place : Place) (foun
 
   pub file-making : (bytes : Vec ℕ) (piece : ℕ) (failing : Vec ℕ) → (get_or places i place).stands ≡ File bytes piece failing → making_at places path ≡ Some (piece, fresh_tally failing.items)
   file-making bytes piece failing e =
-      first_or-at (is_place_at path) (λ (p : Place). making_of p.stands) None places i place (first_of (is_place_at path) places i place found inside)
+      first_or-at (is_place_at path) (λ (p : PathItem). making_of p.stands) None places i place (first_of (is_place_at path) places i place found inside)
       ∙ ap making_of e
 
   pub file-lists-none : (bytes : Vec ℕ) (piece : ℕ) (failing : Vec ℕ) → (get_or places i place).stands ≡ File bytes piece failing → MayList (tree_of places) path → ⊥
@@ -94,10 +94,10 @@ module _ (places : List Place) (path : List ℕ) (i : ℕ) (place : Place) (foun
       let same : entries ≡ entries_of items.items = cc in
       bad (subst AreNames (ap (λ (es : List FolderEntry). map (λ entry. entry.name) es) same ∙ names-same items.items) names)
 
-pub none-gives-none : (places : List Place) (path : List ℕ) → position_or_len (is_place_at path) places ≡ length places → bytes_at (tree_of places) path ≡ None
+pub none-gives-none : (places : List PathItem) (path : List ℕ) → position_or_len (is_place_at path) places ≡ length places → bytes_at (tree_of places) path ≡ None
 none-gives-none places path none = ap file_bytes (tree-none places path none)
 
-pub none-lists-none : (places : List Place) (path : List ℕ) → position_or_len (is_place_at path) places ≡ length places → MayList (tree_of places) path → ⊥
+pub none-lists-none : (places : List PathItem) (path : List ℕ) → position_or_len (is_place_at path) places ≡ length places → MayList (tree_of places) path → ⊥
 none-lists-none places path none (entries, are, names) =
     let nothing : entries_at (tree_of places) path ≡ None = ap folder_entries (tree-none places path none) in
     let both : Some entries ≡ None = sym are ∙ nothing in

@@ -1,9 +1,10 @@
 -- What was begun at a path is found there.
-use Rattle.std.proofs.Common.{◌≡◌, ℕ, Bool, true, false, ◌||◌, List, [], ◌∷◌, map, Result, Ok, Err, IsErr, refl, sym, ap, ◌∙◌, string_bytes}
+use Rattle.std.proofs.Common.{◌≡◌, ℕ, Bool, true, ◌||◌, List, [], ◌∷◌, map, Result, Ok, Err, IsErr, refl, sym, ap, ◌∙◌, string_bytes}
 use Rattle.std.specs.List.{list_any, Any}
 use Rattle.std.specs.Str.{bytes_eq}
 use Rattle.std.proofs.lemmas.List.Folds.{list_any-from_Any}
 use Rattle.std.proofs.lemmas.Slice.Eq.{bytes_eq-Decides}
+use Rattle.std.proofs.lemmas.Bool.{or_right as or_true}
 use Rattle.swh_outside.specs.Sink.{Begun, path_of, IsBegunAt}
 use Rattle.swh_outside.specs.declared.fault.OutFault.{OutFault}
 use Rattle.swh_outside.specs.declared.fault.OutFault.TheVariants as fault
@@ -33,10 +34,6 @@ same_tests path (m ∷ makings) =
 passes : (path : List ℕ) (begun : List Begun) → IsBegunAt path begun → Any (λ b. is_begun_at path b ≡ true) begun
 unfolding is_begun_at
 passes path begun any = (any.0, any.1, any.2, any.3, (bytes_eq-Decides (path_of any.1) path).1 any.4)
-
-or_true : (a b : Bool) → b ≡ true → (a || b) ≡ true
-or_true true b e = refl
-or_true false b e = e
 
 failed-is_err : {T : Type 0} (r : Result T OutFault) → has_failed r ≡ true → IsErr r
 failed-is_err (Ok x) e = cc

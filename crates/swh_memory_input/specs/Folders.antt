@@ -10,12 +10,12 @@ use Rattle.swh_outside.specs.declared.folder.Item.{Item}
 use Rattle.swh_memory_failures.specs.Tally.{Tally, fresh_tally}
 use Rattle.swh_memory_input.specs.declared.folder.MemoryFolder.{MemoryFolder}
 use Rattle.swh_memory_input.specs.declared.folder_input.FolderInput.{FolderInput}
-use Rattle.swh_memory_input.specs.declared.place.Place.{Place}
-use Rattle.swh_memory_input.specs.declared.place.Stands.{Stands}
-use Rattle.swh_memory_input.specs.declared.place.Stands.TheVariants.{File, Folder}
+use Rattle.swh_memory_input.specs.declared.path_item.PathItem.{PathItem}
+use Rattle.swh_memory_input.specs.declared.path_item.Stands.{Stands}
+use Rattle.swh_memory_input.specs.declared.path_item.Stands.TheVariants.{File, Folder}
 
 -- it is the place of this path
-abbrev pub is_place_at : List ℕ → Place → Bool
+abbrev pub is_place_at : List ℕ → PathItem → Bool
 is_place_at path place = bytes_eq (string_bytes place.path) path
 
 -- the entries of a folder's list
@@ -32,7 +32,7 @@ standing_of (File bytes piece failing) = FileOf bytes.items
 standing_of (Folder items) = FolderOf (entries_of items.items)
 
 -- a tree of these places, of which the first at a path counts
-abbrev pub tree_of : List Place → Tree
+abbrev pub tree_of : List PathItem → Tree
 tree_of [] = nothing
 tree_of (place ∷ places) = finite.insert (tree_of places) (string_bytes place.path) (standing_of place.stands)
 
@@ -42,11 +42,11 @@ making_of (File bytes piece failing) = Some (piece, fresh_tally failing.items)
 making_of (Folder items) = None
 
 -- the same at a path, where a file stands
-abbrev pub making_at : List Place → List ℕ → Option (ℕ × Tally)
+abbrev pub making_at : List PathItem → List ℕ → Option (ℕ × Tally)
 making_at places path = first_or (is_place_at path) (λ place. making_of place.stands) None places
 
 -- the places that the folder was made with
-abbrev pub folder_places : MemoryFolder → List Place
+abbrev pub folder_places : MemoryFolder → List PathItem
 folder_places folder = arc_slice_items folder.places
 
 -- what the folder holds
@@ -78,9 +78,9 @@ abbrev pub tree_at : List FolderInput → List ℕ → Option Tree
 tree_at inputs path = first_or (is_folder_for path) input_tree None inputs
 
 -- the places of a folder, and which of its calls fail
-abbrev pub folder_making : FolderInput → Option (List Place × Tally)
+abbrev pub folder_making : FolderInput → Option (List PathItem × Tally)
 folder_making input = Some (arc_slice_items input.places, fresh_tally input.failing.items)
 
 -- the same of the first folder at a path
-abbrev pub folder_made_at : List FolderInput → List ℕ → Option (List Place × Tally)
+abbrev pub folder_made_at : List FolderInput → List ℕ → Option (List PathItem × Tally)
 folder_made_at inputs path = first_or (is_folder_for path) folder_making None inputs

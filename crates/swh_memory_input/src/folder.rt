@@ -15,7 +15,7 @@ ghost use Rattle.swh_memory_input.specs.Inputs.{
   source_faults,
 };
 
-use crate::{MemorySource, Place, Stands};
+use crate::{MemorySource, PathItem, Stands};
 use std::alloc::{AllocError, Global};
 use std::sync::ArcSlice;
 use swh_folder_names::are_names;
@@ -27,7 +27,7 @@ use swh_outside::{Folder, Item, OutFault};
 pub struct MemoryFolder {
     alloc: Global,
     path: String,
-    places: ArcSlice<Place>,
+    places: ArcSlice<PathItem>,
     failures: Failures,
 }
 
@@ -43,7 +43,7 @@ impl MemoryFolder {
 
     /// A folder opened at a path, in which these places are. Its calls of `list` and `read` with the listed numbers,
     /// from 0, will fail.
-    pub fn new(alloc: Global, path: String, places: ArcSlice<Place>, failing: Vec<u64>) -> Self
+    pub fn new(alloc: Global, path: String, places: ArcSlice<PathItem>, failing: Vec<u64>) -> Self
         ensures places { folder_places result ≡ arc_slice_items places }
         ensures holds { folder_tree result ≡ tree_of (arc_slice_items places) }
         ensures path { folder_path result ≡ string_bytes path }
@@ -165,7 +165,7 @@ impl Folder for MemoryFolder {
 }
 
 // The number of the first place at a path, or of places.
-fn find_place(places: &[Place], path: &str) -> usize
+fn find_place(places: &[PathItem], path: &str) -> usize
     ensures first { result ≡ position_or_len (is_place_at path.now) places.now }
     ensures within { result ≤ length places.now }
 {
@@ -204,7 +204,7 @@ fn good_items(alloc: Global, items: &[Item]) -> Result<Option<Vec<Item>>, AllocE
 }
 
 // What the list of a folder at a path gives: none where no folder of good names stands there.
-fn items_at(alloc: Global, places: &[Place], dir: &str) -> Result<Option<Vec<Item>>, AllocError>
+fn items_at(alloc: Global, places: &[PathItem], dir: &str) -> Result<Option<Vec<Item>>, AllocError>
     ensures some { IfOk result (λ found. IfSome found (λ items. (entries_at (tree_of places.now) dir.now
         ≡ Some (entries_of items.items)) × AreNames (names_of items.items))) }
     ensures none { IfOk result (λ found. IfNone found (MayList (tree_of places.now) dir.now → ⊥)) }
@@ -222,7 +222,7 @@ fn items_at(alloc: Global, places: &[Place], dir: &str) -> Result<Option<Vec<Ite
 // A source of the file at a path, if one stands there.
 fn source_at(
     alloc: Global,
-    places: &[Place],
+    places: &[PathItem],
     path: &str,
 ) -> Result<Option<MemorySource>, AllocError>
     ensures given { IfOk result (λ found. IfSome found (λ source. bytes_at (tree_of places.now) path.now

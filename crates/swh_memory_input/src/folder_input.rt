@@ -1,14 +1,14 @@
 // A folder of the origins in memory.
 ghost use Rattle.std.specs.Prelude.{◌≡◌};
 
-use crate::Place;
+use crate::PathItem;
 use std::sync::ArcSlice;
 
 /// A folder outside: its path, what stands in it, and the numbers, from 0, of its calls that will fail.
 #[derive(Drop)]
 pub struct FolderInput {
     pub path: String,
-    pub places: ArcSlice<Place>,
+    pub places: ArcSlice<PathItem>,
     pub failing: Vec<u64>,
 }
 

@@ -1,5 +1,6 @@
-//! Sources, folders, origins, sinks, yards and a clock in memory, told in full, of which each can be made to fail at chosen
-//! calls; links and doors that always fail; and a gate that counts its calls. No call of a source, sink or clock allocates.
+//! Sources, folders, origins, sinks, yards and a clock in memory, told in full, of which each can be made to fail at
+//! chosen calls; links and doors that always fail; and a gate that counts its calls. No call of a source, sink or clock
+//! allocates.
 //! Stands on `swh_outside`, `swh_memory_failures` and `swh_folder_names`.
 //! Callers may rely on: a source gives the bytes and the pieces that it was made with, a folder holds the tree of its
 //! places, a sink keeps what was put, and a yard what was begun, in its order.
@@ -14,7 +15,7 @@ mod input;
 mod link;
 mod making;
 mod origins;
-mod place;
+mod path_item;
 mod sink;
 mod source;
 mod yard;
@@ -28,7 +29,7 @@ pub use input::Input;
 pub use link::MemoryLink;
 pub use making::{Begins, Making};
 pub use origins::MemoryOrigins;
-pub use place::{Place, Stands};
+pub use path_item::{PathItem, Stands};
 pub use sink::MemorySink;
 pub use source::MemorySource;
 pub use yard::MemoryYard;

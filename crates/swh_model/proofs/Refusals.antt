@@ -59,7 +59,7 @@ same_visit o v w a b = cc
 same_id : (o : Option (List ℕ)) (v w : List ℕ) → o ≡ Some v → o ≡ Some w → v ≡ w
 same_id o v w a b = cc
 
-none_past : (us : List Visit) (j : ℕ) (y : Visit) → slice_get us j ≡ Some y → length us ≤ j → ⊥
+pub none_past : (us : List Visit) (j : ℕ) (y : Visit) → slice_get us j ≡ Some y → length us ≤ j → ⊥
 none_past [] j y e l = let f : None ≡ Some y = e in cc
 none_past (u ∷ us) zero y e l = omega (arith, l)
 none_past (u ∷ us) (suc j) y e l = none_past us j y e (omega (arith, l))

@@ -1,4 +1,5 @@
-//! The two files of an archive as a crash may find them, byte by byte, and what the device calls of an event make of them.
+//! The two files of an archive as a crash may find them, byte by byte, and what the device calls of an event make of
+//! them.
 use crate::plain::{Plain, What};
 use crate::records::{gate_after, store_end};
 use std::alloc::Global;

@@ -1,5 +1,5 @@
-//! A second machine for the core, as plain as can be, with which tests compare it: an archive as a list of events, two files as
-//! bytes that a barrier made firm, and how many events each actor has seen.
+//! A second machine for the core, as plain as can be, with which tests compare it: an archive as a list of events, two
+//! files as bytes that a barrier made firm, and how many events each actor has seen.
 //! Stands on `swh_base`, `swh_model` and on the steps of `swh_core`.
 //! Callers may rely on: it is safe. What it answers is what tests compare, and no contract says it.
 #![tactic(auto)]

@@ -2,7 +2,7 @@
 use std::alloc::{AllocError, Global};
 use std::sync::ArcSlice;
 use std::test::Fail;
-use swh_memory_input::{FolderInput, MemoryFolder, MemoryOrigins, MemorySource, Place, Stands};
+use swh_memory_input::{FolderInput, MemoryFolder, MemoryOrigins, MemorySource, PathItem, Stands};
 use swh_outside::{Folder, Item, Opened, Origins, Source, What};
 
 /// A name in a list, and what stands under it.
@@ -42,12 +42,12 @@ fn stands_of(alloc: Global, laid: Laid) -> Result<Stands, AllocError> {
     }
 }
 
-fn places_of(alloc: Global, tree: &[(&str, Laid)]) -> Result<ArcSlice<Place>, AllocError> {
+fn places_of(alloc: Global, tree: &[(&str, Laid)]) -> Result<ArcSlice<PathItem>, AllocError> {
     let mut places = Vec::new(alloc);
     for (path, laid) in tree {
         let path = String::from_str(alloc, path)?;
         let stands = stands_of(alloc, *laid)?;
-        places.push(Place { path, stands })?;
+        places.push(PathItem { path, stands })?;
     }
     ArcSlice::from_vec(places)
 }

@@ -1,5 +1,5 @@
-//! Tests of the outside over memory: counts of faults by path, disks with what a crash leaves of them, depots, inputs and
-//! folders, yards, and disks that fall short.
+//! Tests of the outside over memory: counts of faults by path, disks with what a crash leaves of them, depots, inputs
+//! and folders, yards, and disks that fall short.
 //! Stands on the outside and its fakes.
 //! Nothing stands above it.
 #![tactic(auto)]

@@ -4,10 +4,11 @@ use Rattle.std.specs.Prelude.{Contains}
 use Rattle.std.proofs.lemmas.List.{take_more, map-append}
 use Rattle.std.proofs.lemmas.List.Elements.{Contains-get_or}
 use Rattle.swh_base.specs.Directory.{DirectoryEntry}
+use Rattle.swh_base.proofs.Elementary.{none_in}
 use Rattle.swh_dirfmt.specs.declared.entry.SpelledEntry.{SpelledEntry}
 use Rattle.swh_dirfmt.specs.Entries.{entry_of, entries_in_body}
 use Rattle.swh_model.specs.Archive.{Bodies}
-use Rattle.swh_postorder.proofs.Trips.{first_in, later_in, none_in, in_cases}
+use Rattle.swh_postorder.proofs.Trips.{first_in, later_in, in_cases}
 use Rattle.swh_pathwalk.specs.Tree.{Row}
 use Rattle.swh_pathsums.specs.declared.weight.Weight.{Weight}
 use Rattle.swh_pathsums.specs.declared.tally.Tally.{Tally}

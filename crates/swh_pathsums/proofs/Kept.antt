@@ -10,7 +10,6 @@ use Rattle.swh_base.specs.declared.kind.Kind.{Kind}
 use Rattle.swh_base.specs.declared.kind.Kind.TheVariants.{Directory}
 use Rattle.swh_base.specs.Reach.{IsChildIn}
 use Rattle.swh_postorder.specs.Cycle.{ArePreceded}
-use Rattle.swh_postorder.proofs.Trips.{none_in}
 use Rattle.swh_base.specs.declared.name.Name.{Name}
 use Rattle.std.specs.Ordering.{is_eq}
 use Rattle.std.specs.Cmp.{Equal-is, tied_itself}
@@ -20,6 +19,7 @@ use Rattle.swh_model.specs.Archive.{Bodies}
 use Rattle.swh_closure.proofs.Order.{order_is}
 use Rattle.swh_graph.specs.Path.{directory_name}
 use Rattle.swh_base.specs.Directory.{DirectoryEntry}
+use Rattle.swh_base.proofs.Elementary.{none_in}
 use Rattle.swh_pathwalk.specs.Tree.{Row, row_at, IsPathWalk}
 use Rattle.swh_pathsums.specs.declared.weight.Weight.{Weight}
 use Rattle.swh_pathsums.specs.declared.tally.Tally.{Tally}

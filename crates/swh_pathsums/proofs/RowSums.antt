@@ -4,7 +4,7 @@ use Rattle.std.specs.List.{flat_map, list_any}
 use Rattle.std.proofs.lemmas.Grind.{flat_map-append}
 use Rattle.std.proofs.lemmas.List.Folds.{list_any-append}
 use Rattle.swh_base.specs.Directory.{DirectoryEntry}
-use Rattle.swh_fasttext.specs.Quoted.{is_quoted_byte, quoted_byte, quoted_path}
+use Rattle.swh_fastwrite.specs.Quoted.{is_quoted_byte, quoted_byte, quoted_path}
 use Rattle.swh_pathwalk.specs.Tree.{Row}
 use Rattle.swh_pathwalk.specs.Weight.{total}
 use Rattle.swh_pathsums.specs.declared.weight.Weight.{Weight}

@@ -7,7 +7,8 @@ use Rattle.swh_model.specs.Archive.{Bodies}
 use Rattle.swh_graph.specs.Holding.{HoldsDirectory}
 use Rattle.swh_graph.specs.Path.{directory_name}
 use Rattle.swh_pathwalk.specs.Tree.{Tree, End, Leaf, Folder, entries_in, AreHeldUnder, IsTreeOf, Row, row_at, path_walk, IsPathWalk}
-use Rattle.swh_heldpaths.proofs.Trees.{same_listing}
+use Rattle.swh_pathwalk.proofs.Trees.{same_listing}
+use Rattle.swh_pathwalk.proofs.Steps.{head_entry, tail_entries}
 use Rattle.swh_pathsums.specs.Tallies.{row_behind, AreEntryRows, AreRowsOver}
 
 -- ---- rows behind what leads to their directory
@@ -42,12 +43,6 @@ walk_at front tree = ap (λ (p : List ℕ). path_walk p tree) (sym (append-nil f
 no_entries : (e : DirectoryEntry) (es : List DirectoryEntry) → [] ≡ es ++ e ∷ [] → ⊥
 no_entries e [] is = cc
 no_entries e (d ∷ es) is = cc
-
-head_entry : (d e : DirectoryEntry) (ds es : List DirectoryEntry) → d ∷ ds ≡ e ∷ es → d ≡ e
-head_entry d e ds es is = cc
-
-tail_entries : (d e : DirectoryEntry) (ds es : List DirectoryEntry) → d ∷ ds ≡ e ∷ es → ds ≡ es
-tail_entries d e ds es is = cc
 
 module _ (bodies : Bodies) where
   -- a tree cut before its last entry

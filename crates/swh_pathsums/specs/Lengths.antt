@@ -5,7 +5,7 @@ use Rattle.swh_base.specs.declared.name.Name.{Name}
 use Rattle.swh_base.specs.Directory.{DirectoryEntry}
 use Rattle.swh_model.specs.Archive.{Bodies}
 use Rattle.swh_graph.specs.Path.{directory_name}
-use Rattle.swh_fasttext.specs.Quoted.{quoted_path}
+use Rattle.swh_fastwrite.specs.Quoted.{quoted_path}
 use Rattle.swh_pathwalk.specs.Tree.{Row, IsPathWalk}
 use Rattle.swh_pathsums.specs.declared.weight.Weight.{Weight}
 

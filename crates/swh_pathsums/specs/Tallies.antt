@@ -9,7 +9,7 @@ use Rattle.swh_base.specs.Directory.{DirectoryEntry}
 use Rattle.swh_base.specs.Reach.{IsChildIn}
 use Rattle.swh_model.specs.Archive.{Bodies}
 use Rattle.swh_graph.specs.Path.{directory_name}
-use Rattle.swh_fasttext.specs.Quoted.{is_quoted_byte, quoted_byte}
+use Rattle.swh_fastwrite.specs.Quoted.{is_quoted_byte, quoted_byte}
 use Rattle.swh_pathwalk.specs.Tree.{Tree, entries_in, AreHeldUnder, Row, row_at, path_walk, IsPathWalk}
 use Rattle.swh_pathwalk.specs.Weight.{total}
 use Rattle.swh_pathsums.specs.declared.weight.Weight.{Weight}

@@ -8,7 +8,7 @@ ghost use Rattle.swh_model.specs.Archive.{Bodies};
 ghost use Rattle.swh_graph.specs.Holding.{HoldsDirectory};
 ghost use Rattle.swh_graph.specs.Path.{directory_name};
 ghost use Rattle.swh_pathwalk.specs.Tree.{Row, IsPathWalk};
-ghost use Rattle.swh_heldpaths.specs.Held.{IsHeldOrder};
+ghost use Rattle.swh_pathwalk.specs.Held.{IsHeldOrder};
 ghost use Rattle.swh_pathsums.specs.declared.tally.Tally.{Tally as Tallied};
 ghost use Rattle.swh_pathsums.specs.Lengths.{IsLengthUnder};
 ghost use Rattle.swh_pathsums.specs.Sums.{MayWeighAll, AreLengths};

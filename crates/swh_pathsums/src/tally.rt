@@ -2,7 +2,7 @@
 ghost use Rattle.std.specs.Prelude.{◌≡◌, if◌then◌else◌, ◌+◌, ◌*◌, ◌++◌, ◌∷◌, [], ℕ, List, length, map};
 ghost use Rattle.std.specs.List.{flat_map, list_any};
 ghost use Rattle.swh_base.specs.Directory.{DirectoryEntry};
-ghost use Rattle.swh_fasttext.specs.Quoted.{is_quoted_byte, quoted_byte};
+ghost use Rattle.swh_fastwrite.specs.Quoted.{is_quoted_byte, quoted_byte};
 ghost use Rattle.swh_pathwalk.specs.Tree.{Row};
 ghost use Rattle.swh_pathsums.specs.declared.weight.Weight.{Weight as Weighed};
 ghost use Rattle.swh_pathsums.specs.Lengths.{IsUpTo};

@@ -1,3 +1,7 @@
 pub mod Levels
 pub mod Steps
 pub mod Weights
+pub mod Preceding
+pub mod Trees
+pub mod Rows
+pub mod Walks

@@ -4,6 +4,7 @@ use Rattle.std.proofs.lemmas.List.{append-nil}
 use Rattle.swh_base.specs.declared.name.Name.{Name}
 use Rattle.swh_base.specs.Directory.{DirectoryEntry, IsDirectory}
 use Rattle.swh_base.proofs.DirectoryLemmas.{one_listing_lem}
+use Rattle.swh_base.proofs.Elementary.{same_body}
 use Rattle.swh_dirfmt.specs.declared.entry.SpelledEntry.{SpelledEntry}
 use Rattle.swh_dirfmt.specs.Entries.{entry_of}
 use Rattle.swh_model.specs.Archive.{Bodies}
@@ -12,17 +13,14 @@ use Rattle.swh_graph.specs.Path.{directory_name}
 use Rattle.swh_pathwalk.specs.Tree.{entries_in, End, Leaf, Folder, Row, row_at, path_walk, IsPathWalk}
 use Rattle.swh_pathwalk.specs.Walk.{Coming, Standing, with_entries, IsEntered, BeginsAt, ComesNext, ComesInside, GivesNext, Steps, Remain, row_of}
 
-no_entry : (e : DirectoryEntry) (es : List DirectoryEntry) → e ∷ es ≡ [] → ⊥
+pub no_entry : (e : DirectoryEntry) (es : List DirectoryEntry) → e ∷ es ≡ [] → ⊥
 no_entry e es is = cc
 
-head_entry : (d e : DirectoryEntry) (ds es : List DirectoryEntry) → d ∷ ds ≡ e ∷ es → d ≡ e
+pub head_entry : (d e : DirectoryEntry) (ds es : List DirectoryEntry) → d ∷ ds ≡ e ∷ es → d ≡ e
 head_entry d e ds es is = cc
 
-tail_entries : (d e : DirectoryEntry) (ds es : List DirectoryEntry) → d ∷ ds ≡ e ∷ es → ds ≡ es
+pub tail_entries : (d e : DirectoryEntry) (ds es : List DirectoryEntry) → d ∷ ds ≡ e ∷ es → ds ≡ es
 tail_entries d e ds es is = cc
-
-same_body : (a b : List ℕ) → Some a ≡ Some b → a ≡ b
-same_body a b e = cc
 
 module _ (bodies : Bodies) where
   pub gives_leaf : (old mid : Standing) (e : DirectoryEntry) → ComesNext old e mid → (e.mode ≡ 40000 → ⊥) → GivesNext bodies old e mid

@@ -1,3 +1,4 @@
+pub mod Held
 pub mod Tree
 pub mod Walk
 pub mod Weight

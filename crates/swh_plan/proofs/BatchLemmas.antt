@@ -8,6 +8,7 @@ use Rattle.std.proofs.lemmas.List.{take_all}
 use Rattle.swh_base.specs.declared.name.Name.{Name}
 use Rattle.swh_base.specs.declared.entry.Entry.{Entry}
 use Rattle.swh_base.specs.Name.{name_cmp, name_cmp_total}
+use Rattle.swh_base.proofs.Elementary.{some_not_none}
 use Rattle.swh_model.specs.Archive.{Bodies, body_of}
 use Rattle.swh_model.specs.Step.{AreNew, added}
 use Rattle.swh_model.specs.Judge.{not_held, Collides}
@@ -68,9 +69,6 @@ all_more : (a b : Bodies) (es : List Entry) (i : ℕ) (e : Entry) → i < length
 all_more a b es i e less is w there h =
     subst (AllByRecursion (λ e. body_of b e.name ≡ Some e.body)) (sym (take-more es i e less is))
     (all-append (λ e. body_of b e.name ≡ Some e.body) (take i es) (e ∷ []) (all_within a b (take i es) w h) (there, tt))
-
-some_not_none : (x : List ℕ) (o : Option (List ℕ)) → o ≡ Some x → o ≡ None → ⊥
-some_not_none x o s n = cc
 
 -- one that is new
 splits-new : (b : Bodies) (es fs gs : List Entry) (i : ℕ) (e : Entry) (c : Option Name) → i < length es → e ≡ get_or es i e → Splits b es i fs c → TakesUp b fs gs e New → Splits b es (i + 1) gs c

@@ -4,11 +4,11 @@ use Rattle.std.specs.Prelude.{IfOk, IfErr}
 use Rattle.swh_base.specs.declared.visit.VisitKind.{VisitKind}
 use Rattle.swh_keeper.specs.Kept.{Kept}
 use Rattle.swh_loader.specs.declared.end.Loaded.{Loaded}
-use Rattle.swh_walk.specs.declared.end.LoadFault.{LoadFault}
+use Rattle.swh_ingest.specs.declared.end.LoadFault.{LoadFault}
 use Rattle.swh_loader.specs.Report.{detail_limit, end_room, outcome_room}
 use Rattle.swh_loader.proofs.Leaves.{small_short}
 use Rattle.swh_loader.specs.Ending.{IsJobEnd, held_bodies, statuses_of}
-use Rattle.swh_alone.specs.Loading.{EndsVisit, Stops}
+use Rattle.swh_keeperload.specs.Loading.{EndsVisit, Stops}
 use Rattle.swh_pool.specs.Loads.{OneLoad, Loading, IsLoadOutcome, IsOneLoad, AreLoads, attempt_at, AreAllowedAt}
 
 -- the room that is wanted for an outcome is within the limit of its kind

@@ -3,11 +3,11 @@ use Rattle.std.proofs.Common.{◌≡◌, ◌≢◌, inl, inr, ℕ, Bool, true, f
 use Rattle.swh_model.specs.declared.event.Event.{Event}
 use Rattle.swh_keeper.specs.Kept.{Kept}
 use Rattle.swh_loader.specs.declared.end.Loaded.{Loaded}
-use Rattle.swh_walk.specs.declared.end.LoadFault.{LoadFault}
-use Rattle.swh_walk.specs.declared.stop.Stop.{Stop}
-use Rattle.swh_walk.specs.declared.stop.Stop.TheVariants.{Ended, DiskFault, Wounded, Limit, Memory}
-use Rattle.swh_alone.specs.Leaving.{StopsFor}
-use Rattle.swh_alone.specs.Loading.{IsHeldBack}
+use Rattle.swh_ingest.specs.declared.end.LoadFault.{LoadFault}
+use Rattle.swh_ingest.specs.declared.stop.Stop.{Stop}
+use Rattle.swh_ingest.specs.declared.stop.Stop.TheVariants.{Ended, DiskFault, Wounded, Limit, Memory}
+use Rattle.swh_keeperload.specs.Leaving.{StopsFor}
+use Rattle.swh_keeperload.specs.Loading.{IsHeldBack}
 use Rattle.swh_pool.specs.Loads.{OneLoad, Loading, IsLoadOutcome, IsOneLoad, AreLoads}
 use Rattle.swh_pool.specs.Stops.{IsStoppedAtOnce, IsUnwounded, is_fault, is_disk_fault, AreStops, HaveNoDiskFault}
 

@@ -2,7 +2,7 @@
 use Rattle.std.specs.Prelude.{ℕ, ◌+◌, Result, List, [], ◌∷◌, map, zip, flat_map}
 use Rattle.swh_inputs.specs.Opening.{kind_of}
 use Rattle.swh_loader.specs.declared.end.Loaded.{Loaded}
-use Rattle.swh_walk.specs.declared.end.LoadFault.{LoadFault}
+use Rattle.swh_ingest.specs.declared.end.LoadFault.{LoadFault}
 use Rattle.swh_loader.specs.Report.{report_of, report_line_limit}
 use Rattle.swh_pool.specs.declared.dated.DatedJob.{DatedJob}
 

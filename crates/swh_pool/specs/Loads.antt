@@ -7,15 +7,15 @@ use Rattle.swh_outside.specs.Views.{Disks}
 use Rattle.swh_model.specs.declared.event.Event.{Event}
 use Rattle.swh_keeper.specs.Kept.{Kept}
 use Rattle.swh_loader.specs.declared.end.Loaded.{Loaded}
-use Rattle.swh_walk.specs.declared.end.LoadFault.{LoadFault}
-use Rattle.swh_walk.specs.Owning.{Attempt, attempt}
+use Rattle.swh_ingest.specs.declared.end.LoadFault.{LoadFault}
+use Rattle.swh_ingest.specs.Owning.{Attempt, attempt}
 use Rattle.swh_loader.specs.Ending.{IsJobEnd, statuses_of, held_bodies}
 use Rattle.swh_inputs.specs.Opening.{kind_of}
 use Rattle.swh_inputs.specs.Parts.{Parts, HasGoodHead, IsSameInput}
 use Rattle.swh_loader.specs.Leaving.{AreAllowed}
-use Rattle.swh_alone.specs.Loading.{AreOfVisit, MakesVisitCalls, Stops, IsHeldBack}
-use Rattle.swh_walk.specs.Visiting.{next_visit, IsVisit}
-use Rattle.swh_alone.specs.Leaving.{KeepsAll}
+use Rattle.swh_keeperload.specs.Loading.{AreOfVisit, MakesVisitCalls, Stops, IsHeldBack}
+use Rattle.swh_ingest.specs.Visiting.{next_visit, IsVisit}
+use Rattle.swh_keeperload.specs.Leaving.{KeepsAll}
 use Rattle.swh_pool.specs.declared.dated.DatedJob.{DatedJob}
 
 -- The head that is named for the job's stream is a ref.

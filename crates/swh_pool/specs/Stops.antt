@@ -2,9 +2,9 @@
 use Rattle.std.specs.Prelude.{◌≡◌, ◌≢◌, ◌⊎◌, Bool, true, false, Result, Ok, Err, List, [], ◌∷◌}
 use Rattle.std.specs.List.{AllByRecursion}
 use Rattle.swh_loader.specs.declared.end.Loaded.{Loaded}
-use Rattle.swh_walk.specs.declared.stop.Stop.{Stop}
-use Rattle.swh_walk.specs.declared.stop.Stop.TheVariants.{Ended, DiskFault, Wounded, Limit, Memory}
-use Rattle.swh_walk.specs.declared.end.LoadFault.{LoadFault}
+use Rattle.swh_ingest.specs.declared.stop.Stop.{Stop}
+use Rattle.swh_ingest.specs.declared.stop.Stop.TheVariants.{Ended, DiskFault, Wounded, Limit, Memory}
+use Rattle.swh_ingest.specs.declared.end.LoadFault.{LoadFault}
 
 -- It stopped before its visit was opened, since a disk had failed before, or for want of memory.
 abbrev pub IsStoppedAtOnce : Result Loaded LoadFault → Type 0

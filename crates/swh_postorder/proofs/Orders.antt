@@ -5,8 +5,9 @@ use Rattle.std.proofs.lemmas.List.Elements.{Contains-append_left, Contains-appen
 use Rattle.swh_base.specs.declared.name.Name.{Name}
 use Rattle.swh_base.specs.Reach.{IsHeldIn, IsChildIn, IsWalk, ReachesIn, IsClosedIn}
 use Rattle.swh_base.proofs.Reaches.{reaches-next}
+use Rattle.swh_base.proofs.Elementary.{none_in}
 use Rattle.swh_postorder.specs.Postorder.{Trip, Over, Passes, Enters, left_in, IsEntered, IsTrip, IsPostorder, Precedes, PrecedesOrReturns}
-use Rattle.swh_postorder.proofs.Trips.{none_in, first_in, later_in, in_cases, AreEntered, assoc_end}
+use Rattle.swh_postorder.proofs.Trips.{first_in, later_in, in_cases, AreEntered, assoc_end}
 
 -- two cuts of one list
 pub data Cuts (f g : List Name) (m n : Name) (a b : List Name) : Type 0 where

@@ -6,9 +6,10 @@ use Rattle.std.proofs.lemmas.List.{take-append-drop, take_more}
 use Rattle.std.proofs.lemmas.List.Elements.{Contains-append_left, Contains-append_right, Contains-append_cases}
 use Rattle.swh_base.specs.declared.name.Name.{Name}
 use Rattle.swh_base.specs.Reach.{IsHeldIn, IsChildIn, IsWalk}
+use Rattle.swh_base.proofs.Elementary.{none_in, only}
 use Rattle.swh_postorder.specs.Postorder.{Precedes}
 use Rattle.swh_postorder.specs.Cycle.{IsOnCycle, IsFirstOnCycle, IsSomePostorder, ArePreceded}
-use Rattle.swh_postorder.proofs.Trips.{none_in, only, first_in, in_cases}
+use Rattle.swh_postorder.proofs.Trips.{first_in, in_cases}
 use Rattle.swh_postorder.proofs.Orders.{AtOne, Sooner, Later, cuts, order_are, order_closed, order_once, order_front}
 
 -- where a member stands in a list

@@ -6,7 +6,8 @@ use Rattle.swh_base.specs.declared.name.Name.{Name}
 use Rattle.swh_postorder.specs.Postorder.{Trip, Over, Passes, Enters, left_in, IsEntered, Stop, Here, Inside, IsTrip, ComesTo, StopsAt, IsPostorder, IsFirstMissing}
 use Rattle.swh_base.specs.Reach.{IsHeldIn, IsChildIn, ReachesIn}
 use Rattle.swh_base.proofs.Reaches.{reaches-next}
-use Rattle.swh_postorder.proofs.Trips.{none_in, first_in, in_cases, assoc_end}
+use Rattle.swh_base.proofs.Elementary.{none_in}
+use Rattle.swh_postorder.proofs.Trips.{first_in, in_cases, assoc_end}
 use Rattle.std.proofs.lemmas.List.Elements.{Contains-append_right}
 use Rattle.swh_postorder.proofs.Orders.{AtOne, Sooner, Later, cuts, head_is, tail_is}
 

@@ -1,23 +1,17 @@
 -- Trips that begin by passing names, and what is left to do of a walk from the names that it is inside of.
-use Rattle.std.proofs.Common.{◌≡◌, ◌⊎◌, inl, inr, zero, suc, Option, Some, None, List, [], ◌∷◌, ◌++◌, map, refl, sym, ap, ◌∙◌, subst, arith, append_assoc}
+use Rattle.std.proofs.Common.{◌≡◌, ◌⊎◌, inl, inr, Option, Some, None, List, [], ◌∷◌, ◌++◌, map, refl, sym, ap, ◌∙◌, subst, arith, append_assoc}
 use Rattle.std.specs.Prelude.{Contains}
 use Rattle.std.proofs.lemmas.List.{append-nil}
 use Rattle.std.proofs.lemmas.List.Elements.{Contains-append_right, Contains-append_cases}
 use Rattle.swh_base.specs.declared.name.Name.{Name}
+use Rattle.swh_base.proofs.Elementary.{only}
 use Rattle.swh_postorder.specs.Postorder.{Trip, Over, Passes, Enters, left_in, IsEntered, Stop, Here, Inside, IsTrip, ComesTo, StopsAt}
-
-pub none_in : {X : Type 0} → (x : X) → Contains [] x → ⊥
-none_in x (k, less, is) = absurd (omega (arith, less))
 
 pub first_in : {X : Type 0} → (x : X) (xs : List X) → Contains (x ∷ xs) x
 first_in x xs = (0, omega arith, refl)
 
 pub later_in : {X : Type 0} → (x : X) (xs : List X) (y : X) → Contains xs y → Contains (x ∷ xs) y
 later_in x xs y there = Contains-append_right (x ∷ []) xs y there
-
-pub only : {X : Type 0} → (x y : X) → Contains (x ∷ []) y → x ≡ y
-only x y (zero, less, is) = is
-only x y (suc k, less, is) = absurd (omega (arith, less))
 
 pub in_cases : {X : Type 0} → (x : X) (xs : List X) (y : X) → Contains (x ∷ xs) y → (x ≡ y) ⊎ Contains xs y
 in_cases x xs y there = elim (Contains-append_cases (x ∷ []) xs y there) [ inl is ↦ inl (only x y is) | inr later ↦ inr later ]

@@ -6,13 +6,14 @@ use Rattle.std.proofs.lemmas.Result.{err_from_is_err_and}
 use Rattle.std.proofs.lemmas.List.{reverse-append}
 use Rattle.std.proofs.lemmas.List.Elements.{Contains-append_left, Contains-append_right, Contains-append_cases}
 use Rattle.swh_base.specs.declared.name.Name.{Name}
+use Rattle.swh_base.proofs.Elementary.{none_in, only}
 use Rattle.swh_postorder.specs.declared.walk.Frame.{Frame}
 use Rattle.swh_postorder.specs.declared.walk.Walk.{Walk}
 use Rattle.swh_postorder.specs.Postorder.{Over, Enters, IsEntered, Here, Inside, IsPostorder, IsFirstMissing}
 use Rattle.swh_postorder.specs.Walk.{HasEntered, CannotEnter, IsFirstFresh, GoesOn, StopsIn, CannotGoOn, ExplainsOrder}
 use Rattle.swh_postorder.specs.declared.fault.OrderFault.{OrderFault}
 use Rattle.swh_postorder.specs.declared.fault.OrderFault.TheVariants.{NotHeld, Memory}
-use Rattle.swh_postorder.proofs.Trips.{none_in, only, first_in, later_in, Level, names_of, Completes, Misses, leaves_whole, leaves_gap, stops_here, enters_whole, enters_gap, passing, stops_inside}
+use Rattle.swh_postorder.proofs.Trips.{first_in, later_in, Level, names_of, Completes, Misses, leaves_whole, leaves_gap, stops_here, enters_whole, enters_gap, passing, stops_inside}
 
 -- how a call ends that hands a fault on
 pub refused : {T E : Type 0} (r : Result T E) (P : E → Type 0) (x : E) → IsErrAnd r (λ y. y ≡ x) → P x → IfErr r P

@@ -2,8 +2,8 @@
 //! children. It takes no recursion, so that a path of any length is walked.
 //! Stands on `swh_base` and `swh_closure`.
 //! Callers may rely on: there is one order, or one name that is the first entered and not held; the order has each name
-//! that is reached, once, and a child comes before its parent unless it leads back to it; of a name that is looked for in a
-//! list by slots it is told to which place of it they lead, or that they lead to none.
+//! that is reached, once, and a child comes before its parent unless it leads back to it; of a name that is looked for
+//! in a list by slots it is told to which place of it they lead, or that they lead to none.
 #![tactic(auto)]
 
 mod cycles;

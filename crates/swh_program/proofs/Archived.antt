@@ -9,10 +9,10 @@ use Rattle.swh_format.proofs.Unique.{alike}
 use Rattle.swh_format.proofs.StandsFrom.{behind_magic}
 use Rattle.swh_segment.specs.Making.{IsMade, IsNotMade}
 use Rattle.swh_keeper.proofs.DamageLemmas.{damage_is_damaged}
-use Rattle.swh_answers.specs.Damage.{IsHarmedAt, TellsHarm}
-use Rattle.swh_answers.specs.Opening.{IsArchive, IsDamagedArchive, IsUnusable, IsOpenRefusal, OpenEnds}
-use Rattle.swh_answers.specs.declared.answer.Answer.{Answer}
-use Rattle.swh_answers.specs.declared.answer.Answer.TheVariants.{NotMade, Damaged, OutsideDisk, Memory}
+use Rattle.swh_exit.specs.Damage.{IsHarmedAt, TellsHarm}
+use Rattle.swh_exit.specs.Opening.{IsArchive, IsDamagedArchive, IsUnusable, IsOpenRefusal, OpenEnds}
+use Rattle.swh_exit.specs.declared.answer.Answer.{Answer}
+use Rattle.swh_exit.specs.declared.answer.Answer.TheVariants.{NotMade, Damaged, OutsideDisk, Memory}
 
 pub not_both : (bytes : List ℕ) → IsMade bytes → IsNotMade bytes → ⊥
 not_both bytes made not_made =

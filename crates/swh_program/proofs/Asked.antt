@@ -7,17 +7,17 @@ use Rattle.std.proofs.lemmas.Bool.{eq-eqb, eqb-true}
 use Rattle.swh_model.specs.Archive.{Archive}
 use Rattle.swh_model.specs.Answer.{ReplyText}
 use Rattle.swh_model.specs.Step.{replay}
-use Rattle.swh_answers.specs.Seen.{Span}
-use Rattle.swh_answers.specs.Archives.{old_archive, new_archive}
-use Rattle.swh_answers.specs.Answers.{status_of, status_for, last_line_for}
+use Rattle.swh_exit.specs.Seen.{Span}
+use Rattle.swh_exit.specs.Archives.{old_archive, new_archive}
+use Rattle.swh_exit.specs.Answers.{status_of, status_for, last_line_for}
 use Rattle.swh_program.specs.AskCommand.{reply_line, AreReplies, AreFound, HasShortReply, IsEndingOf, TellsReplies, asking, DoesAsk, replies_status}
 use Rattle.swh_program.specs.Reading.{Reads}
-use Rattle.swh_answers.specs.Run.{IsExactly, IsTold}
-use Rattle.swh_answers.specs.declared.answer.Ending.{Ending}
-use Rattle.swh_answers.specs.declared.answer.Ending.TheVariants as ending
-use Rattle.swh_answers.specs.declared.answer.Answer.{Answer}
-use Rattle.swh_answers.specs.declared.answer.Answer.TheVariants.{Told, OutsideDisk, Memory}
-use Rattle.swh_answers.proofs.Statuses.{Tells, stopped}
+use Rattle.swh_exit.specs.Run.{IsExactly, IsTold}
+use Rattle.swh_exit.specs.declared.answer.Ending.{Ending}
+use Rattle.swh_exit.specs.declared.answer.Ending.TheVariants as ending
+use Rattle.swh_exit.specs.declared.answer.Answer.{Answer}
+use Rattle.swh_exit.specs.declared.answer.Answer.TheVariants.{Told, OutsideDisk, Memory}
+use Rattle.swh_exit.proofs.Statuses.{Tells, stopped}
 use Rattle.swh_program.proofs.Completes.{told_with}
 use Rattle.swh_program.proofs.ReadOnly.{IsSettled, Settles, Says, read_done, does_read}
 use Rattle.swh_program.proofs.Replies.{same_replies, none_short}

@@ -11,22 +11,22 @@ use Rattle.swh_model.specs.Grows.{IsWithin}
 use Rattle.swh_model.specs.Meaning.{Made as MadeObject, StreamMeaning}
 use Rattle.swh_model.specs.Step.{HasItsChildrenAndName, replay}
 use Rattle.swh_inputs.specs.Input.{InputText, MeansInput}
-use Rattle.swh_made.specs.Making.{made_from, made}
+use Rattle.swh_dedup.specs.Making.{made_from, made}
+use Rattle.swh_dedup.proofs.Elements.{from_map}
 use Rattle.swh_inputs.proofs.OneInput.{one_making, unbroken}
-use Rattle.swh_walk.specs.Owning.{Attempt}
+use Rattle.swh_ingest.specs.Owning.{Attempt}
 use Rattle.swh_loader.specs.Ending.{IsFull}
-use Rattle.swh_walk.proofs.Batches.{at_element}
+use Rattle.swh_ingest.proofs.Batches.{at_element}
 use Rattle.swh_loader.specs.declared.end.End.{End}
 use Rattle.swh_loader.specs.declared.end.End.TheVariants.{Full, NotFound, Failed}
 use Rattle.swh_loader.specs.declared.end.Loaded.{Loaded}
-use Rattle.swh_walk.specs.declared.end.LoadFault.{LoadFault}
+use Rattle.swh_ingest.specs.declared.end.LoadFault.{LoadFault}
 use Rattle.swh_program.specs.Causes.{HasTwoBodies, IsBroken, IsBadInput}
 use Rattle.swh_program.specs.Complete.{HasBodyOrMakes}
 use Rattle.swh_program.specs.Inputs.{Inputs, input_of, IsInputEnd}
 use Rattle.swh_program.specs.JobLoad.{attempt_for, IsJobOutcome, IsJobLoad}
 use Rattle.swh_program.specs.Lines.{LoadedJob, outcomes, ending_of_end, ending_for, ending_of_all}
-use Rattle.swh_answers.specs.declared.answer.Ending.TheVariants as ending
-use Rattle.swh_program.proofs.Elements.{from_map}
+use Rattle.swh_exit.specs.declared.answer.Ending.TheVariants as ending
 use Rattle.swh_program.proofs.LoadEndings.{both_done, why_undone}
 
 -- Nothing is wrong with the input of a full job.

@@ -8,11 +8,11 @@ use Rattle.swh_model.specs.declared.event.Event.{Event}
 use Rattle.swh_keeper.specs.Kept.{Kept}
 use Rattle.swh_jobs.specs.Job.{Job}
 use Rattle.swh_keeper.specs.Calls.{MakesCallsOf, MakesCalls}
-use Rattle.swh_alone.specs.Loading.{AreOfVisit, AddsVisit, IsHeldBack}
-use Rattle.swh_walk.specs.Visiting.{next_visit}
+use Rattle.swh_keeperload.specs.Loading.{AreOfVisit, AddsVisit, IsHeldBack}
+use Rattle.swh_ingest.specs.Visiting.{next_visit}
 use Rattle.swh_loader.specs.declared.end.Loaded.{Loaded}
-use Rattle.swh_walk.specs.declared.end.LoadFault.{LoadFault}
-use Rattle.swh_alone.proofs.Calls.{calls_none, of_as, of_further}
+use Rattle.swh_ingest.specs.declared.end.LoadFault.{LoadFault}
+use Rattle.swh_keeperload.proofs.Calls.{calls_none, of_as, of_further}
 use Rattle.swh_pool.specs.Loads.{Loading, loading, attempt_at, AreAllowedAt, OneLoad, AreLoads}
 use Rattle.swh_program.specs.Inputs.{loader, Inputs}
 use Rattle.swh_program.specs.Dated.{IsOpenedJob}

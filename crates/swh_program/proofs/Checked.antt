@@ -4,14 +4,14 @@ use Rattle.swh_base.specs.declared.kind.Kind.{Kind}
 use Rattle.swh_model.specs.Archive.{Archive}
 use Rattle.swh_check.specs.Counts.{IsReport}
 use Rattle.swh_check.specs.declared.report.Report.{Report}
-use Rattle.swh_answers.specs.Seen.{Span}
-use Rattle.swh_answers.specs.Answers.{TellsLine, status_of, status_for}
+use Rattle.swh_exit.specs.Seen.{Span}
+use Rattle.swh_exit.specs.Answers.{TellsLine, status_of, status_for}
 use Rattle.swh_program.specs.CheckCommand.{report_line, checking, DoesCheck}
 use Rattle.swh_program.specs.Reading.{IsOfArchive, IsReadAnswer, Reads}
-use Rattle.swh_answers.specs.Run.{IsTold}
-use Rattle.swh_answers.specs.declared.answer.Ending.TheVariants as ending
-use Rattle.swh_answers.specs.declared.answer.Answer.{Answer}
-use Rattle.swh_answers.specs.declared.answer.Answer.TheVariants.{Told, NotMade, Damaged, OutsideDisk, OutsideYard, Memory}
+use Rattle.swh_exit.specs.Run.{IsTold}
+use Rattle.swh_exit.specs.declared.answer.Ending.TheVariants as ending
+use Rattle.swh_exit.specs.declared.answer.Answer.{Answer}
+use Rattle.swh_exit.specs.declared.answer.Answer.TheVariants.{Told, NotMade, Damaged, OutsideDisk, OutsideYard, Memory}
 use Rattle.swh_program.proofs.ReadOnly.{Settles, does_read}
 use Rattle.swh_program.proofs.Statuses.{run_never}
 

@@ -1,14 +1,14 @@
 -- Where nothing stands against a command, it is done, or memory runs out.
 use Rattle.std.proofs.Common.{◌≡◌, ◌⊎◌, inl, inr, ℕ, List, ◌++◌, refl, ap, ◌∙◌}
 use Rattle.swh_outside.specs.Files.{Files}
-use Rattle.swh_answers.specs.Seen.{Span, SinkFailed}
-use Rattle.swh_answers.specs.Answers.{status_of, last_line_of, IsPrinted}
+use Rattle.swh_exit.specs.Seen.{Span, SinkFailed}
+use Rattle.swh_exit.specs.Answers.{status_of, last_line_of, IsPrinted}
 use Rattle.swh_segment.specs.Making.{IsNotMade}
 use Rattle.swh_program.specs.InitCommand.{InitEnds}
-use Rattle.swh_answers.specs.Run.{IsTold, IsPrintedWith, IsPrintedUnlessFailed}
-use Rattle.swh_answers.specs.declared.answer.Answer.{Answer}
-use Rattle.swh_answers.specs.declared.answer.Answer.TheVariants.{Made, AlreadyMade, OutsideDisk, Memory}
-use Rattle.swh_answers.proofs.Statuses.{Tells}
+use Rattle.swh_exit.specs.Run.{IsTold, IsPrintedWith, IsPrintedUnlessFailed}
+use Rattle.swh_exit.specs.declared.answer.Answer.{Answer}
+use Rattle.swh_exit.specs.declared.answer.Answer.TheVariants.{Made, AlreadyMade, OutsideDisk, Memory}
+use Rattle.swh_exit.proofs.Statuses.{Tells}
 use Rattle.swh_program.proofs.Archived.{not_both}
 
 -- what an answer says, the run that printed it says

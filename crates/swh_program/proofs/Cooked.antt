@@ -25,25 +25,25 @@ use Rattle.swh_cook.specs.Back.{IsAgain}
 use Rattle.swh_cook.specs.Cook.{IsCarried, IsCooked, IsBrokenOff, ExplainsUncooked, MakesAll, MakesFront}
 use Rattle.swh_cook.proofs.Again.{made_again}
 use Rattle.swh_cook.proofs.Ends.{carried_held, carried_or}
-use Rattle.swh_answers.specs.Seen.{Folders, Span}
-use Rattle.swh_answers.specs.Answers.{TellsLine, TellsDisk, status_of, status_for, printed_by, IsPrinted}
-use Rattle.swh_answers.specs.Archives.{archive_at, old_archive, new_archive}
+use Rattle.swh_exit.specs.Seen.{Folders, Span}
+use Rattle.swh_exit.specs.Answers.{TellsLine, TellsDisk, status_of, status_for, printed_by, IsPrinted}
+use Rattle.swh_exit.specs.Archives.{archive_at, old_archive, new_archive}
 use Rattle.swh_program.specs.CookCommand.{cook_line, not_held_line, uncarried_line, no_swhid_line, TellsMissing, TellsUncarried, TellsUncooked, IsRefused, TellsCooked, RefusesCook, TellsCook, BreaksOff, LeavesYard, LeavesCook, cooking, RefusesSwhid, EndsUnread, CooksName, Cooks, IsUncooked, CannotCook, PrintsCooked, DoesCook}
 use Rattle.swh_program.specs.Commands.{telling, LooksLeave, ReadsLeave}
-use Rattle.swh_answers.specs.Damage.{damaged_line, IsUndamaged}
-use Rattle.swh_answers.specs.Opening.{IsUnusable, IsOpenRefusal}
+use Rattle.swh_exit.specs.Damage.{damaged_line, IsUndamaged}
+use Rattle.swh_exit.specs.Opening.{IsUnusable, IsOpenRefusal}
 use Rattle.swh_program.specs.Reading.{Telling, IsOfArchive, OfHistory, OfArchive, IsReadAnswer, ReadEnds, Prints, DoesRead}
-use Rattle.swh_answers.specs.Run.{ComesTo, IsExactly, IsTold, IsPrintedUnlessFailed}
+use Rattle.swh_exit.specs.Run.{ComesTo, IsExactly, IsTold, IsPrintedUnlessFailed}
 use Rattle.swh_program.specs.Run.{NamesFailed}
 use Rattle.swh_program.specs.Yards.{Yards, yards_of}
-use Rattle.swh_answers.specs.declared.answer.Ending.{Ending}
-use Rattle.swh_answers.specs.declared.answer.Ending.TheVariants as ending
-use Rattle.swh_answers.specs.declared.answer.Answer.{Answer}
-use Rattle.swh_answers.specs.declared.answer.Answer.TheVariants.{Told, NotMade, Damaged, OutsideDisk, OutsideSource, OutsideFolder, OutsideYard, OutsideClock, Memory}
+use Rattle.swh_exit.specs.declared.answer.Ending.{Ending}
+use Rattle.swh_exit.specs.declared.answer.Ending.TheVariants as ending
+use Rattle.swh_exit.specs.declared.answer.Answer.{Answer}
+use Rattle.swh_exit.specs.declared.answer.Answer.TheVariants.{Told, NotMade, Damaged, OutsideDisk, OutsideSource, OutsideFolder, OutsideYard, OutsideClock, Memory}
 use Rattle.swh_program.specs.declared.reading.Reading.{Reading}
 use Rattle.swh_program.specs.declared.reading.Reading.TheVariants.{Ask, Check, Cook}
 use Rattle.swh_program.proofs.Archived.{usable, one_archive, harmed}
-use Rattle.swh_answers.proofs.Statuses.{Tells}
+use Rattle.swh_exit.proofs.Statuses.{Tells}
 use Rattle.swh_program.proofs.Completes.{told_unless}
 use Rattle.swh_program.proofs.ReadOnly.{Settles, does_read, read_names}
 use Rattle.swh_program.proofs.Statuses.{run_comes, run_exactly}

@@ -5,16 +5,16 @@ use Rattle.swh_base.specs.declared.kind.Kind.{Kind}
 use Rattle.swh_outside.specs.Files.{Files}
 use Rattle.swh_jobs.specs.Job.{Job}
 use Rattle.swh_keeper.proofs.DamageLemmas.{one_damage}
-use Rattle.swh_answers.specs.Seen.{FileAt}
-use Rattle.swh_answers.specs.Answers.{status_of}
-use Rattle.swh_answers.specs.Damage.{damaged_line, IsHarmedAt, TellsHarm}
+use Rattle.swh_exit.specs.Seen.{FileAt}
+use Rattle.swh_exit.specs.Answers.{status_of}
+use Rattle.swh_exit.specs.Damage.{damaged_line, IsHarmedAt, TellsHarm}
 use Rattle.swh_program.specs.Jobs.{HasJobs}
 use Rattle.swh_program.specs.Load.{Givens, IsLoadedOrNot, LoadEnds}
-use Rattle.swh_answers.specs.Opening.{IsOpenRefusal, OpenEnds}
-use Rattle.swh_answers.specs.declared.answer.Answer.{Answer}
-use Rattle.swh_answers.specs.declared.answer.Answer.TheVariants.{NotMade, Damaged, OutsideDisk, OutsideSource, OutsideClock, Memory}
+use Rattle.swh_exit.specs.Opening.{IsOpenRefusal, OpenEnds}
+use Rattle.swh_exit.specs.declared.answer.Answer.{Answer}
+use Rattle.swh_exit.specs.declared.answer.Answer.TheVariants.{NotMade, Damaged, OutsideDisk, OutsideSource, OutsideClock, Memory}
 use Rattle.swh_program.proofs.Archived.{not_both, usable, no_archive}
-use Rattle.swh_answers.proofs.Statuses.{Tells}
+use Rattle.swh_exit.proofs.Statuses.{Tells}
 use Rattle.swh_program.proofs.JobRefusals.{refusal_of_jobs}
 use Rattle.swh_program.proofs.LoadAnswers.{unloaded_cases}
 

@@ -2,30 +2,30 @@
 use Rattle.std.proofs.Common.{◌≡◌, ◌<◌, ◌≤◌, refl, ℕ, List, subst, arith, inl, inr}
 use Rattle.swh_base.specs.declared.kind.Kind.{Kind}
 use Rattle.swh_words.specs.Words.{Wanted, ToInit, ToLoad, ToAsk, ToCheck, ToCook, ToIdentify, ToIdentifyFolder}
-use Rattle.swh_answers.specs.Seen.{Sink, Seen, Told, Same, Span}
-use Rattle.swh_answers.specs.Answers.{last_line_of}
-use Rattle.swh_answers.specs.Archives.{SameElsewhere, old_archive, new_archive}
+use Rattle.swh_exit.specs.Seen.{Sink, Seen, Told, Same, Span}
+use Rattle.swh_exit.specs.Answers.{last_line_of}
+use Rattle.swh_exit.specs.Archives.{SameElsewhere, old_archive, new_archive}
 use Rattle.swh_program.specs.AskCommand.{asking}
 use Rattle.swh_program.specs.CheckCommand.{checking}
 use Rattle.swh_program.specs.Commands.{Does, Comes}
 use Rattle.swh_program.specs.CookCommand.{Cooks, cooking}
 use Rattle.swh_program.specs.Complete.{jobs_of_meant, all_made, full_lines}
-use Rattle.swh_answers.specs.Damage.{damaged_line}
+use Rattle.swh_exit.specs.Damage.{damaged_line}
 use Rattle.swh_identify.specs.IdentifyCommand.{Identifies, DoesIdentify, HasNoBody, IsIdentifyAnswer, name_of_bytes, name_line}
 use Rattle.swh_identify.specs.IdentifyFolderCommand.{IdentifiesFolder, DoesIdentifyFolder, HasNoDirectory, IsFolderAnswer, directory_line}
 use Rattle.swh_program.specs.InitCommand.{Inits, DoesInit, IsInitAnswer}
 use Rattle.swh_program.specs.Jobs.{HasJobs, HasNoJobs, bad_job_line}
-use Rattle.swh_answers.specs.LeftAlone.{TouchesNothing, IsOnDepot, IsOnDesk, IsBeforeInputs, IsRefusedInOrder}
+use Rattle.swh_exit.specs.LeftAlone.{TouchesNothing, IsOnDepot, IsOnDesk, IsBeforeInputs, IsRefusedInOrder}
 use Rattle.swh_program.specs.LoadCommand.{inputs_of, givens_of, Loads, DoesLoad}
-use Rattle.swh_answers.specs.Opening.{IsUnusable}
-use Rattle.swh_answers.specs.Own.{KeepsOwn}
+use Rattle.swh_exit.specs.Opening.{IsUnusable}
+use Rattle.swh_exit.specs.Own.{KeepsOwn}
 use Rattle.swh_program.specs.Reading.{Telling, Reads}
-use Rattle.swh_answers.specs.Run.{IsTold}
+use Rattle.swh_exit.specs.Run.{IsTold}
 use Rattle.swh_program.specs.Run.{NamesFailed}
 use Rattle.swh_program.specs.Yards.{yards_of}
 use Rattle.swh_segment.specs.Making.{IsMade}
-use Rattle.swh_answers.specs.declared.answer.Answer.{Answer}
-use Rattle.swh_answers.specs.declared.answer.Answer.TheVariants.{Made, NoJobFile, BadJob, NotMade, Damaged, OutsideDisk, OutsideSource, OutsideFolder, OutsideClock, Memory}
+use Rattle.swh_exit.specs.declared.answer.Answer.{Answer}
+use Rattle.swh_exit.specs.declared.answer.Answer.TheVariants.{Made, NoJobFile, BadJob, NotMade, Damaged, OutsideDisk, OutsideSource, OutsideFolder, OutsideClock, Memory}
 use Rattle.swh_program.proofs.Asked.{ask_settles, does_ask}
 use Rattle.swh_program.proofs.Checked.{check_settles, does_check}
 use Rattle.swh_program.proofs.Cooked.{does_cook, cook_names}
@@ -40,7 +40,7 @@ use Rattle.swh_program.proofs.LoadStatuses.{load_job, load_bad, load_archive, lo
 use Rattle.swh_program.proofs.LoadsDone.{load_exact, meant_all_made, load_done}
 use Rattle.swh_identify.proofs.Naming.{identify_statuses, identify_exactly, named}
 use Rattle.swh_program.proofs.Owned.{exactly_not_made_with, ends_own}
-use Rattle.swh_answers.proofs.Owned.{keeps_same}
+use Rattle.swh_exit.proofs.Owned.{keeps_same}
 use Rattle.swh_program.proofs.Orders.{job_first, archive_first, refused_job, refused_archive}
 use Rattle.swh_program.proofs.ReadOnly.{read_names}
 use Rattle.swh_program.proofs.Statuses.{run_comes, uncut, run_exactly, run_never, init_disk, identify_disk}

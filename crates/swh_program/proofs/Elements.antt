@@ -18,15 +18,6 @@ map_contains {X} {Y} f xs x h = at xs h.0 h.1 h.2
     at (y ∷ ys) zero less h = (0, omega arith, ap f h)
     at (y ∷ ys) (suc k) less h = contains_more (f y) (map f ys) (f x) (at ys k (omega (arith, less)) h)
 
--- one of those that are made to it
-pub from_map : {X Y : Type 0} (f : X → Y) (xs : List X) (y : Y) → Contains (map f xs) y → (x : X) × Contains xs x × (f x ≡ y)
-from_map {X} {Y} f xs y h = at xs h.0 h.1 h.2
-  where
-    at : (zs : List X) (k : ℕ) → k < length (map f zs) → get_or (map f zs) k y ≡ y → (x : X) × Contains zs x × (f x ≡ y)
-    at [] k less e = absurd (omega (arith, less))
-    at (z ∷ zs) zero less e = (z, contains_first z zs, e)
-    at (z ∷ zs) (suc k) less e = let r = at zs k (omega (arith, less)) e in (r.0, contains_more z zs r.0 r.1, r.2)
-
 -- what one part has they all have together
 pub flat_contains : {X Y : Type 0} (f : X → List Y) (xs : List X) (x : X) (y : Y) → Contains xs x → Contains (f x) y → Contains (flat_map f xs) y
 flat_contains {X} {Y} f xs x y h part = at xs h.0 h.1 h.2

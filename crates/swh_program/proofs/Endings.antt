@@ -3,23 +3,23 @@ use Rattle.std.proofs.Common.{◌≡◌, ◌⊎◌, inl, inr, ⊎_elim, ℕ, ◌
 use Rattle.std.proofs.lemmas.List.Folds.{flat_map-map}
 use Rattle.swh_segment.specs.Makes.{ADiskFailed}
 use Rattle.swh_keeper.specs.Kept.{Kept}
-use Rattle.swh_alone.specs.Loading.{Stops}
+use Rattle.swh_keeperload.specs.Loading.{Stops}
 use Rattle.swh_loader.specs.Report.{report_of}
 use Rattle.swh_loader.specs.declared.end.End.{End}
 use Rattle.swh_loader.specs.declared.end.End.TheVariants.{Full, NotFound, Failed}
 use Rattle.swh_loader.specs.declared.end.Loaded.{Loaded}
-use Rattle.swh_walk.specs.declared.stop.Stop.{Stop}
-use Rattle.swh_walk.specs.declared.stop.Stop.TheVariants as why
-use Rattle.swh_walk.specs.declared.end.LoadFault.{LoadFault}
+use Rattle.swh_ingest.specs.declared.stop.Stop.{Stop}
+use Rattle.swh_ingest.specs.declared.stop.Stop.TheVariants as why
+use Rattle.swh_ingest.specs.declared.end.LoadFault.{LoadFault}
 use Rattle.swh_pool.specs.Lines.{ended, lines_of}
 use Rattle.swh_pool.specs.Loads.{Loading, attempt_at, AreAllowedAt, OneLoad, IsLoadOutcome, AreLoads}
 use Rattle.swh_pool.specs.Stops.{IsUnwounded, is_disk_fault, AreStops}
 use Rattle.swh_pool.specs.declared.dated.DatedJob.{DatedJob}
 use Rattle.swh_program.specs.Lines.{LoadedJob, outcomes, load_line, ending_of_end, ending_of_why, ending_for, worse, ending_of_all, TellsLoads, TellsLoad}
 use Rattle.swh_program.specs.Telling.{TellsReport}
-use Rattle.swh_answers.specs.declared.answer.Ending.{Ending}
-use Rattle.swh_answers.specs.declared.answer.Ending.TheVariants as ending
-use Rattle.swh_answers.specs.declared.answer.Answer.{Answer}
+use Rattle.swh_exit.specs.declared.answer.Ending.{Ending}
+use Rattle.swh_exit.specs.declared.answer.Ending.TheVariants as ending
+use Rattle.swh_exit.specs.declared.answer.Answer.{Answer}
 use Rattle.swh_program.proofs.Inputs.{url_and_outcome}
 
 -- a disk is told only where one of the two is a disk's

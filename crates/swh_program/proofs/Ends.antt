@@ -1,7 +1,7 @@
 -- What the ends of `init` mean.
 use Rattle.std.proofs.Common.{◌≡◌, ⊎_elim, ℕ, List, sym, subst}
 use Rattle.swh_base.specs.declared.kind.Kind.{Kind}
-use Rattle.swh_answers.specs.declared.answer.Ending.TheVariants as ending
+use Rattle.swh_exit.specs.declared.answer.Ending.TheVariants as ending
 use Rattle.swh_outside.specs.Disk.{EachImage}
 use Rattle.swh_outside.specs.Files.{Files, EachImages}
 use Rattle.swh_outside.proofs.Numbered.{files_left_whole, files_left_same, files_left_by}
@@ -9,8 +9,8 @@ use Rattle.swh_segment.specs.Making.{IsNotMade, IsNotMadeOrEmpty, making_calls}
 use Rattle.swh_segment.proofs.Crash.{making_moments}
 use Rattle.swh_keeper.proofs.OwnLemmas.{making_moments as own_making_moments}
 use Rattle.swh_program.specs.InitCommand.{InitEnds, IsSafeInit}
-use Rattle.swh_answers.specs.declared.answer.Answer.{Answer}
-use Rattle.swh_answers.specs.declared.answer.Answer.TheVariants.{Made, AlreadyMade, OutsideDisk, Memory}
+use Rattle.swh_exit.specs.declared.answer.Answer.{Answer}
+use Rattle.swh_exit.specs.declared.answer.Answer.TheVariants.{Made, AlreadyMade, OutsideDisk, Memory}
 
 left_by : (old new : Files) (answer : Answer) → InitEnds old new answer → IsNotMade (old 0).seen → EachImage (old 0) IsNotMade → EachImages new IsNotMadeOrEmpty
 left_by old new Made e not_made each = files_left_whole (making_calls (old 0).seen) old new IsNotMadeOrEmpty (making_moments old not_made each).moments e.done

@@ -3,13 +3,13 @@ use Rattle.std.proofs.Common.{◌⊎◌, inl, inr, ℕ, ◌<◌, ◌≤◌, List
 use Rattle.swh_base.specs.declared.kind.Kind.{Kind}
 use Rattle.swh_outside.specs.Files.{Files}
 use Rattle.swh_segment.specs.Making.{IsMade}
-use Rattle.swh_answers.specs.Answers.{status_of}
-use Rattle.swh_answers.specs.Run.{ComesTo, IsExactly}
+use Rattle.swh_exit.specs.Answers.{status_of}
+use Rattle.swh_exit.specs.Run.{ComesTo, IsExactly}
 use Rattle.swh_program.specs.InitCommand.{InitEnds, IsInitAnswer}
-use Rattle.swh_answers.specs.Opening.{IsUnusable, IsOpenRefusal, OpenEnds}
-use Rattle.swh_answers.specs.declared.answer.Answer.{Answer}
-use Rattle.swh_answers.specs.declared.answer.Answer.TheVariants.{Made, AlreadyMade, NotMade, Damaged, OutsideDisk, Memory}
-use Rattle.swh_answers.proofs.Statuses.{stopped}
+use Rattle.swh_exit.specs.Opening.{IsUnusable, IsOpenRefusal, OpenEnds}
+use Rattle.swh_exit.specs.declared.answer.Answer.{Answer}
+use Rattle.swh_exit.specs.declared.answer.Answer.TheVariants.{Made, AlreadyMade, NotMade, Damaged, OutsideDisk, Memory}
+use Rattle.swh_exit.proofs.Statuses.{stopped}
 use Rattle.swh_program.proofs.Archived.{not_both, harmed}
 
 -- which statuses `init` has

@@ -14,12 +14,12 @@ use Rattle.swh_model.proofs.Histories.{fronts}
 use Rattle.swh_model.proofs.Maps.{added-all}
 use Rattle.swh_inputs.specs.Input.{InputText}
 use Rattle.swh_inputs.specs.Streaming.{MayGiveInput}
-use Rattle.swh_made.specs.Making.{made_from, made}
-use Rattle.swh_walk.specs.Owning.{Attempt}
-use Rattle.swh_walk.specs.Loading.{IsOwn}
-use Rattle.swh_walk.specs.Walking.{IsBy}
+use Rattle.swh_dedup.specs.Making.{made_from, made}
+use Rattle.swh_ingest.specs.Owning.{Attempt}
+use Rattle.swh_ingest.specs.Loading.{IsOwn}
+use Rattle.swh_ingest.specs.Walking.{IsBy}
 use Rattle.swh_loader.specs.Ending.{MayGiveObjects, IsGivenBy, Collided}
-use Rattle.swh_walk.proofs.Batches.{at_element}
+use Rattle.swh_ingest.proofs.Batches.{at_element}
 use Rattle.swh_program.specs.JobLoad.{AreOwnEvents}
 use Rattle.swh_program.specs.Complete.{AreMade, MakesBody, HasBodyOrMakes, HasOneBody}
 use Rattle.swh_program.proofs.Elements.{map_contains}

@@ -7,8 +7,8 @@ use Rattle.swh_base.specs.declared.visit.VisitKind.{VisitKind}
 use Rattle.swh_base.specs.declared.kind.Kind.{Kind}
 use Rattle.swh_base.specs.declared.entry.Entry.{Entry}
 use Rattle.swh_outside.specs.Views.{Disks}
-use Rattle.swh_walk.specs.declared.input.Opening.{Opening}
-use Rattle.swh_walk.specs.declared.input.Opening.TheVariants.{Found as Here, NotFound as Missing, Failed as Unopened, Memory as NoRoom}
+use Rattle.swh_ingest.specs.declared.input.Opening.{Opening}
+use Rattle.swh_ingest.specs.declared.input.Opening.TheVariants.{Found as Here, NotFound as Missing, Failed as Unopened, Memory as NoRoom}
 use Rattle.swh_inputs.specs.Input.{InputText, BreaksInput, MayBreakInput}
 use Rattle.swh_inputs.specs.Opening.{opening_of}
 use Rattle.swh_inputs.specs.Parts.{Parts, TellAll, IfTold, text_of, IsSameInput}
@@ -19,20 +19,20 @@ use Rattle.swh_model.specs.Archive.{Bodies}
 use Rattle.swh_model.specs.Step.{replay}
 use Rattle.swh_keeper.specs.Kept.{Kept}
 use Rattle.swh_jobs.specs.Job.{Job}
-use Rattle.swh_walk.specs.Owning.{Attempt, attempt, open_event}
-use Rattle.swh_alone.specs.Loading.{IsEvent, IsOwnEvent, AreOfVisit, AddsVisit, Stops}
+use Rattle.swh_ingest.specs.Owning.{Attempt, attempt, open_event}
+use Rattle.swh_keeperload.specs.Loading.{IsEvent, IsOwnEvent, AreOfVisit, AddsVisit, Stops}
 use Rattle.swh_loader.specs.Ending.{IsGivenBy, IsFull, Collided, IsEndOf, IsEndAt, IsJobEnd}
 use Rattle.swh_loader.specs.Leaving.{AreAllowed, AreAllowedAt as AreAllowedAs}
-use Rattle.swh_walk.specs.Visiting.{next_visit}
-use Rattle.swh_alone.specs.Leaving as stopping
-use Rattle.swh_alone.proofs.Allowing.{adds_visit}
+use Rattle.swh_ingest.specs.Visiting.{next_visit}
+use Rattle.swh_keeperload.specs.Leaving as stopping
+use Rattle.swh_keeperload.proofs.Allowing.{adds_visit}
 use Rattle.swh_loader.specs.declared.end.BadInput.TheVariants.{Broken, Collision, Read}
 use Rattle.swh_loader.specs.declared.end.End.{End}
 use Rattle.swh_loader.specs.declared.end.End.TheVariants.{Full, NotFound, Failed}
 use Rattle.swh_loader.specs.declared.end.Loaded.{Loaded}
-use Rattle.swh_walk.specs.declared.stop.Stop.{Stop}
-use Rattle.swh_walk.specs.declared.stop.Stop.TheVariants as why
-use Rattle.swh_walk.specs.declared.end.LoadFault.{LoadFault}
+use Rattle.swh_ingest.specs.declared.stop.Stop.{Stop}
+use Rattle.swh_ingest.specs.declared.stop.Stop.TheVariants as why
+use Rattle.swh_ingest.specs.declared.end.LoadFault.{LoadFault}
 use Rattle.swh_pool.specs.Lines.{ended}
 use Rattle.swh_pool.specs.Loads.{Loading, loading, attempt_at, AreAllowedAt, OneLoad, IsLoadOutcome as IsOutcomeOf, IsOneLoad, AreLoads}
 use Rattle.swh_program.specs.Dated.{IsInputAt, IsOpenedJob, AreOpenedJobs, IsGivenBack, AreGivenBack}

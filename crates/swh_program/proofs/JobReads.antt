@@ -7,10 +7,10 @@ use Rattle.swh_fastlex.specs.Whole.{IsFront}
 use Rattle.swh_jobs.specs.Job.{Job}
 use Rattle.swh_jobs.specs.JobFile.{IsJobFile}
 use Rattle.swh_jobs.proofs.Lengths.{longest_lem, front_lem}
-use Rattle.swh_answers.specs.Seen.{FileAt}
+use Rattle.swh_exit.specs.Seen.{FileAt}
 use Rattle.swh_program.specs.Jobs.{TellsFault, TellsBadJob, AreJobsAt, IsReadRefusal, IsJobRefused}
-use Rattle.swh_answers.specs.declared.answer.Answer.{Answer}
-use Rattle.swh_answers.specs.declared.answer.Answer.TheVariants.{BadJob, Memory}
+use Rattle.swh_exit.specs.declared.answer.Answer.{Answer}
+use Rattle.swh_exit.specs.declared.answer.Answer.TheVariants.{BadJob, Memory}
 
 -- A front of the file at a path was read, longer than any job file where it is not all of it.
 module _ (file_at : FileAt) (path left now front : List ℕ) (there : file_at path ≡ Some left) (read : IsFront left now 2623744 front) where

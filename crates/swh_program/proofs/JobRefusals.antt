@@ -4,10 +4,10 @@ use Rattle.swh_jobs.specs.Job.{Job}
 use Rattle.swh_jobs.specs.JobFile.{IsJobFile, IsJobFileFault}
 use Rattle.swh_jobs.specs.declared.fault.JobWhy.{JobWhy}
 use Rattle.swh_jobs.proofs.Exact.{one_reading_lem, one_fault_lem, no_jobs_lem}
-use Rattle.swh_answers.specs.Seen.{FileAt}
+use Rattle.swh_exit.specs.Seen.{FileAt}
 use Rattle.swh_program.specs.Jobs.{AreJobsAt, HasNoJobs, IsBadAt, TellsBadJob, IsJobRefused, bad_job_line}
-use Rattle.swh_answers.specs.declared.answer.Answer.{Answer}
-use Rattle.swh_answers.specs.declared.answer.Answer.TheVariants.{NoJobFile, BadJob, OutsideSource, Memory}
+use Rattle.swh_exit.specs.declared.answer.Answer.{Answer}
+use Rattle.swh_exit.specs.declared.answer.Answer.TheVariants.{NoJobFile, BadJob, OutsideSource, Memory}
 
 module _ (desk_at : FileAt) (path : List ℕ) where
   -- the same bytes stand there

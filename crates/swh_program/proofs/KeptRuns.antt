@@ -6,7 +6,7 @@ use Rattle.swh_inputs.specs.Parts.{Parts}
 use Rattle.swh_keeper.specs.Kept.{Kept}
 use Rattle.swh_jobs.specs.Job.{Job}
 use Rattle.swh_loader.specs.declared.end.Loaded.{Loaded}
-use Rattle.swh_walk.specs.declared.end.LoadFault.{LoadFault}
+use Rattle.swh_ingest.specs.declared.end.LoadFault.{LoadFault}
 use Rattle.swh_pool.specs.Lines.{ended, lines_of}
 use Rattle.swh_pool.specs.Loads.{loading, AreLoaded}
 use Rattle.swh_pool.specs.Stops.{AreStops, HaveNoDiskFault}
@@ -17,8 +17,8 @@ use Rattle.swh_program.specs.Dated.{AreSaid, AreOpenedJobs, AreGivenBack}
 use Rattle.swh_program.specs.Lines.{LoadedJob, dates, outcomes, ending_of_all}
 use Rattle.swh_program.specs.Loading.{AreKeptLoads, IsKeptRun}
 use Rattle.swh_program.specs.Telling.{TellsReport}
-use Rattle.swh_answers.specs.declared.answer.Answer.{Answer}
-use Rattle.swh_answers.specs.declared.answer.Answer.TheVariants.{Told, Memory}
+use Rattle.swh_exit.specs.declared.answer.Answer.{Answer}
+use Rattle.swh_exit.specs.declared.answer.Answer.TheVariants.{Told, Memory}
 use Rattle.swh_program.proofs.Inputs.{loaded_jobs, each_job, same_jobs, same_dates, same_outcomes, same_ended, url_and_outcome}
 use Rattle.swh_program.proofs.Endings.{raised, told_loads}
 use Rattle.swh_program.proofs.Calling.{calls_of}

@@ -2,13 +2,13 @@
 use Rattle.std.proofs.Common.{◌≡◌, ⊎_elim, List}
 use Rattle.swh_outside.specs.Files.{Files}
 use Rattle.swh_jobs.specs.Job.{Job}
-use Rattle.swh_answers.specs.Seen.{Span}
-use Rattle.swh_answers.specs.Answers.{TellsDisk}
+use Rattle.swh_exit.specs.Seen.{Span}
+use Rattle.swh_exit.specs.Answers.{TellsDisk}
 use Rattle.swh_program.specs.Jobs.{IsJobRefusal}
-use Rattle.swh_answers.specs.LeftAlone.{IsOnDesk, IsRefusedInOrder}
+use Rattle.swh_exit.specs.LeftAlone.{IsOnDesk, IsRefusedInOrder}
 use Rattle.swh_program.specs.Load.{Givens}
-use Rattle.swh_answers.specs.declared.answer.Answer.{Answer}
-use Rattle.swh_answers.specs.declared.answer.Answer.TheVariants.{NoJobFile, BadJob, OutsideDisk, OutsideSource, Memory}
+use Rattle.swh_exit.specs.declared.answer.Answer.{Answer}
+use Rattle.swh_exit.specs.declared.answer.Answer.TheVariants.{NoJobFile, BadJob, OutsideDisk, OutsideSource, Memory}
 
 -- a job file that is refused tells of no disk
 pub no_disk_told : (answer : Answer) → IsJobRefusal answer → TellsDisk answer → ⊥

@@ -2,13 +2,13 @@
 use Rattle.std.proofs.Common.{◌≡◌, ◌⊎◌, inl, inr, ℕ, List, refl, subst}
 use Rattle.swh_base.specs.declared.kind.Kind.{Kind}
 use Rattle.swh_outside.specs.Files.{Files}
-use Rattle.swh_answers.specs.Seen.{FileAt}
+use Rattle.swh_exit.specs.Seen.{FileAt}
 use Rattle.swh_program.specs.Lines.{LoadedJob, TellsLoads, TellsLoad}
 use Rattle.swh_program.specs.Load.{Givens, IsOpenedArchive, IsUnloaded, LoadEnds}
-use Rattle.swh_answers.specs.Opening.{IsOpenRefusal, OpenEnds}
-use Rattle.swh_answers.specs.declared.answer.Ending.{Ending}
-use Rattle.swh_answers.specs.declared.answer.Answer.{Answer}
-use Rattle.swh_answers.specs.declared.answer.Answer.TheVariants.{Told, OutsideFolder, OutsideYard, OutsideClock}
+use Rattle.swh_exit.specs.Opening.{IsOpenRefusal, OpenEnds}
+use Rattle.swh_exit.specs.declared.answer.Ending.{Ending}
+use Rattle.swh_exit.specs.declared.answer.Answer.{Answer}
+use Rattle.swh_exit.specs.declared.answer.Answer.TheVariants.{Told, OutsideFolder, OutsideYard, OutsideClock}
 
 -- loads are told by their lines
 pub told_of : (loads : List LoadedJob) (answer : Answer) → TellsLoad loads answer → (text : List ℕ) × (end : Ending) × TellsLoads loads text end × (answer ≡ Told text end)

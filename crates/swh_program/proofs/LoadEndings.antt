@@ -5,17 +5,17 @@ use Rattle.std.proofs.lemmas.List.{append-nil}
 use Rattle.swh_loader.specs.declared.end.End.{End}
 use Rattle.swh_loader.specs.declared.end.End.TheVariants.{Full, NotFound, Failed}
 use Rattle.swh_loader.specs.declared.end.Loaded.{Loaded}
-use Rattle.swh_walk.specs.declared.stop.Stop.{Stop}
-use Rattle.swh_walk.specs.declared.stop.Stop.TheVariants as why
-use Rattle.swh_walk.specs.declared.end.LoadFault.{LoadFault}
-use Rattle.swh_walk.proofs.Batches.{at_element}
+use Rattle.swh_ingest.specs.declared.stop.Stop.{Stop}
+use Rattle.swh_ingest.specs.declared.stop.Stop.TheVariants as why
+use Rattle.swh_ingest.specs.declared.end.LoadFault.{LoadFault}
+use Rattle.swh_ingest.proofs.Batches.{at_element}
 use Rattle.swh_pool.specs.Stops.{is_fault, is_disk_fault, HaveNoDiskFault}
-use Rattle.swh_answers.specs.Answers.{status_for, last_line_for}
-use Rattle.swh_answers.specs.Run.{ComesTo}
+use Rattle.swh_exit.specs.Answers.{status_for, last_line_for}
+use Rattle.swh_exit.specs.Run.{ComesTo}
 use Rattle.swh_program.specs.Causes.{IsFullEnd, IsFullLine, IsShortEnd, IsOtherStop, IsShortLine, HasShortLine}
 use Rattle.swh_program.specs.Lines.{ending_of_end, ending_of_why, ending_for, ending_of_all, worse}
-use Rattle.swh_answers.specs.declared.answer.Ending.{Ending}
-use Rattle.swh_answers.specs.declared.answer.Ending.TheVariants as ending
+use Rattle.swh_exit.specs.declared.answer.Ending.{Ending}
+use Rattle.swh_exit.specs.declared.answer.Ending.TheVariants as ending
 use Rattle.swh_program.proofs.Elements.{contains_first, contains_more}
 
 -- a line is short where its load ended as wanting

@@ -3,17 +3,17 @@ use Rattle.std.proofs.Common.{◌≡◌, ◌⊎◌, inl, inr, ⊎_elim, ℕ, ◌
 use Rattle.swh_base.specs.declared.kind.Kind.{Kind}
 use Rattle.swh_outside.specs.Files.{Files}
 use Rattle.swh_jobs.specs.Job.{Job}
-use Rattle.swh_answers.specs.Seen.{Span}
-use Rattle.swh_answers.specs.Answers.{status_of, status_for}
-use Rattle.swh_answers.specs.Archives.{old_archive, new_archive}
+use Rattle.swh_exit.specs.Seen.{Span}
+use Rattle.swh_exit.specs.Answers.{status_of, status_for}
+use Rattle.swh_exit.specs.Archives.{old_archive, new_archive}
 use Rattle.swh_program.specs.Lines.{LoadedJob, TellsLoad}
 use Rattle.swh_program.specs.Load.{IsLoadedOrNot, IsUnloaded, LoadEnds}
 use Rattle.swh_program.specs.LoadCommand.{givens_of, HasLoaded}
-use Rattle.swh_answers.specs.Opening.{IsAtMostOpened, IsOpenRefusal, OpenEnds}
-use Rattle.swh_answers.specs.declared.answer.Answer.{Answer}
-use Rattle.swh_answers.specs.declared.answer.Answer.TheVariants.{Told, NotMade, Damaged, OutsideDisk, OutsideClock, Memory}
+use Rattle.swh_exit.specs.Opening.{IsAtMostOpened, IsOpenRefusal, OpenEnds}
+use Rattle.swh_exit.specs.declared.answer.Answer.{Answer}
+use Rattle.swh_exit.specs.declared.answer.Answer.TheVariants.{Told, NotMade, Damaged, OutsideDisk, OutsideClock, Memory}
 use Rattle.swh_program.proofs.LoadAnswers.{unloaded_cases, unloaded_clock}
-use Rattle.swh_answers.proofs.Statuses.{told_status}
+use Rattle.swh_exit.proofs.Statuses.{told_status}
 
 -- an opening that is refused does nothing but barriers
 opened_at_most : (id_of : Kind → List ℕ → List ℕ) (old new : Files) (answer : Answer) → IsOpenRefusal answer → OpenEnds id_of old new answer → IsAtMostOpened old new

@@ -8,24 +8,24 @@ use Rattle.swh_jobs.specs.declared.fault.JobWhy.{JobWhy}
 use Rattle.swh_model.specs.declared.event.Event.{Event}
 use Rattle.swh_model.specs.Grows.{IsWithin}
 use Rattle.swh_model.specs.Step.{replay}
-use Rattle.swh_answers.specs.Seen.{FileAt, Span}
-use Rattle.swh_answers.specs.Answers.{status_of, status_for, printed_by, IsPrinted}
+use Rattle.swh_exit.specs.Seen.{FileAt, Span}
+use Rattle.swh_exit.specs.Answers.{status_of, status_for, printed_by, IsPrinted}
 use Rattle.swh_program.specs.Causes.{IsFullLine, HasShortLine, IsBadInput}
-use Rattle.swh_answers.specs.Run.{ComesTo, IsExactly}
-use Rattle.swh_answers.specs.Archives.{old_archive, new_archive}
+use Rattle.swh_exit.specs.Run.{ComesTo, IsExactly}
+use Rattle.swh_exit.specs.Archives.{old_archive, new_archive}
 use Rattle.swh_program.specs.LoadCommand.{givens_of, IsByLines}
 use Rattle.swh_program.specs.Found.{found_at}
 use Rattle.swh_program.specs.Jobs.{AreJobsAt, HasJobs, HasNoJobs, IsBadAt, IsJobRefusal, bad_job_line}
 use Rattle.swh_program.specs.Lines.{LoadedJob, outcomes, load_line, ending_of_all, TellsLoads}
 use Rattle.swh_program.specs.Load.{Givens, AreLoadedJobs, IsUnloaded, IsLoadedOrNot, LoadEnds, IsJobsRun, IsNoJobsRun}
-use Rattle.swh_answers.specs.Opening.{IsArchive, IsUnusable, IsOpenRefusal, OpenEnds}
-use Rattle.swh_answers.specs.declared.answer.Ending.{Ending}
-use Rattle.swh_answers.specs.declared.answer.Ending.TheVariants as ending
-use Rattle.swh_answers.specs.declared.answer.Answer.{Answer}
-use Rattle.swh_answers.specs.declared.answer.Answer.TheVariants.{Told, NoJobFile, BadJob, OutsideDisk, OutsideSource, OutsideClock, Memory}
+use Rattle.swh_exit.specs.Opening.{IsArchive, IsUnusable, IsOpenRefusal, OpenEnds}
+use Rattle.swh_exit.specs.declared.answer.Ending.{Ending}
+use Rattle.swh_exit.specs.declared.answer.Ending.TheVariants as ending
+use Rattle.swh_exit.specs.declared.answer.Answer.{Answer}
+use Rattle.swh_exit.specs.declared.answer.Answer.TheVariants.{Told, NoJobFile, BadJob, OutsideDisk, OutsideSource, OutsideClock, Memory}
 use Rattle.swh_program.proofs.Archived.{one_archive, usable, opening_of_archive}
 use Rattle.swh_program.proofs.BadInputs.{bad_undone}
-use Rattle.swh_answers.proofs.Statuses.{Tells, told_status}
+use Rattle.swh_exit.proofs.Statuses.{Tells, told_status}
 use Rattle.swh_program.proofs.LoadEndings.{one_done, one_wanting, line_alone, undone, all_full, full_all, one_short, short_undone}
 use Rattle.swh_program.proofs.Exacts.{refusal_exactly, refusal_comes}
 use Rattle.swh_program.proofs.JobRefusals.{IsRefusedBy, one_list, jobs_or_none, jobs_or_bad, refused_by, refusal_of_jobs, refusal_of_bad}

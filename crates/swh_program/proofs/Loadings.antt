@@ -10,14 +10,14 @@ use Rattle.swh_jobs.specs.JobFile.{AreDistinct, origins}
 use Rattle.swh_model.specs.declared.event.Event.{Event}
 use Rattle.swh_model.specs.Meaning.{Made as MadeObject, StreamMeaning}
 use Rattle.swh_model.specs.Step.{IsHistory, replay}
-use Rattle.swh_made.specs.Making.{made}
+use Rattle.swh_dedup.specs.Making.{made}
 use Rattle.swh_inputs.specs.Input.{InputText}
 use Rattle.swh_inputs.proofs.Streamings.{meant_given}
-use Rattle.swh_walk.specs.Owning.{Attempt}
-use Rattle.swh_walk.specs.Visiting.{next_visit, IsVisit}
-use Rattle.swh_walk.specs.declared.stop.Stop.{Stop}
-use Rattle.swh_walk.specs.declared.stop.Stop.TheVariants as why
-use Rattle.swh_walk.specs.declared.end.LoadFault.{LoadFault}
+use Rattle.swh_ingest.specs.Owning.{Attempt}
+use Rattle.swh_ingest.specs.Visiting.{next_visit, IsVisit}
+use Rattle.swh_ingest.specs.declared.stop.Stop.{Stop}
+use Rattle.swh_ingest.specs.declared.stop.Stop.TheVariants as why
+use Rattle.swh_ingest.specs.declared.end.LoadFault.{LoadFault}
 use Rattle.swh_loader.specs.Ending.{statuses_of}
 use Rattle.swh_loader.specs.Report.{report_of}
 use Rattle.swh_loader.specs.declared.end.BadInput.TheVariants.{Broken, Collision, Read}
@@ -32,8 +32,8 @@ use Rattle.swh_program.specs.Inputs.{Inputs, input_of, IsInputEnd, IsOfJob}
 use Rattle.swh_program.specs.JobLoad.{attempt_for, visit_of, IsJobOutcome, IsJobLoad}
 use Rattle.swh_program.specs.Lines.{LoadedJob, outcomes, load_line, ending_of_end, ending_of_why, ending_for, ending_of_all, worse}
 use Rattle.swh_program.specs.Sharing.{AreShared}
-use Rattle.swh_answers.specs.declared.answer.Ending.{Ending}
-use Rattle.swh_answers.specs.declared.answer.Ending.TheVariants as ending
+use Rattle.swh_exit.specs.declared.answer.Ending.{Ending}
+use Rattle.swh_exit.specs.declared.answer.Ending.TheVariants as ending
 use Rattle.swh_program.proofs.LoadEndings.{first_apart, others_apart}
 use Rattle.swh_program.proofs.Fulls.{Had, GivesWithin, none_collides, AddsMade, had_after, adds_made}
 use Rattle.swh_program.proofs.RoomInTurn.{IsNotFilled, HasRoomFor, within, of_job}

@@ -22,20 +22,20 @@ use Rattle.swh_segment.specs.Calls.{all_calls}
 use Rattle.swh_keeper.specs.Calls.{kept_files, MakesCallsOf, MakesCalls}
 use Rattle.swh_segment.specs.Moments.{BreaksAtEvent, EachFrontMoment, IsSafelyBroken}
 use Rattle.swh_segment.proofs.Moments.{codable_front, all_moments, opened_standing, safe_opening, safely_made, safely_broken}
-use Rattle.swh_alone.proofs.Calls.{of_as}
+use Rattle.swh_keeperload.proofs.Calls.{of_as}
 use Rattle.swh_loader.specs.declared.end.Loaded.{Loaded}
-use Rattle.swh_walk.specs.declared.end.LoadFault.{LoadFault}
+use Rattle.swh_ingest.specs.declared.end.LoadFault.{LoadFault}
 use Rattle.swh_pool.specs.Stops.{HaveNoDiskFault}
 use Rattle.swh_program.specs.Inputs.{loader}
 use Rattle.swh_program.specs.InTurn.{AreLoadsInTurn, IsNextOf}
-use Rattle.swh_answers.specs.Opening.{IsArchive, IsOnlyOpened, IsOpenRefusal, OpenEnds}
+use Rattle.swh_exit.specs.Opening.{IsArchive, IsOnlyOpened, IsOpenRefusal, OpenEnds}
 use Rattle.swh_program.specs.Lines.{LoadedJob, outcomes, TellsLoad}
 use Rattle.swh_program.specs.Load.{Givens, VisitsStay, LeavesDisks, IsInDoubt, MakesRunCalls, IsLoad, IsLoadedOrNot, IsUnloaded}
 use Rattle.swh_program.specs.Loading.{IsUnstarted, AreKeptLoads, IsKeptRun}
-use Rattle.swh_answers.specs.Damage.{IsUndamaged}
-use Rattle.swh_answers.specs.declared.answer.Ending.TheVariants as ending
-use Rattle.swh_answers.specs.declared.answer.Answer.{Answer}
-use Rattle.swh_answers.specs.declared.answer.Answer.TheVariants.{NotMade, Damaged, OutsideDisk, Memory}
+use Rattle.swh_exit.specs.Damage.{IsUndamaged}
+use Rattle.swh_exit.specs.declared.answer.Ending.TheVariants as ending
+use Rattle.swh_exit.specs.declared.answer.Answer.{Answer}
+use Rattle.swh_exit.specs.declared.answer.Answer.TheVariants.{NotMade, Damaged, OutsideDisk, Memory}
 use Rattle.swh_program.proofs.Owned.{load_moments}
 use Rattle.swh_program.proofs.Shared.{all_numbered}
 use Rattle.swh_program.proofs.Turns.{all_own, all_behind, each_load, shared_in_turn, stops_in_turn}

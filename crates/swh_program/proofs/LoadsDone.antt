@@ -6,6 +6,7 @@ use Rattle.swh_base.specs.declared.kind.Kind.{Kind}
 use Rattle.swh_base.specs.declared.name.Name.{Name}
 use Rattle.swh_outside.specs.Files.{Files}
 use Rattle.std.proofs.lemmas.List.{length-map}
+use Rattle.swh_dedup.proofs.Elements.{from_map}
 use Rattle.swh_jobs.specs.Job.{Job, IsJob}
 use Rattle.swh_jobs.specs.JobFile.{AreDistinct, origins}
 use Rattle.swh_model.specs.declared.event.Event.{Event}
@@ -17,13 +18,13 @@ use Rattle.swh_inputs.specs.Input.{InputText}
 use Rattle.swh_inputs.specs.Streaming.{MayGiveInput}
 use Rattle.swh_inputs.proofs.OneInput.{one_making, unbroken}
 use Rattle.swh_inputs.proofs.Streamings.{given_among}
-use Rattle.swh_walk.proofs.Batches.{at_element}
+use Rattle.swh_ingest.proofs.Batches.{at_element}
 use Rattle.swh_loader.proofs.Room.{HasRoomLeft, room_at_entry}
 use Rattle.swh_loader.specs.declared.end.BadInput.TheVariants.{Broken, Collision, Read}
 use Rattle.swh_loader.specs.declared.end.End.{End}
 use Rattle.swh_loader.specs.declared.end.End.TheVariants.{Full, NotFound, Failed}
-use Rattle.swh_answers.specs.Seen.{FileAt}
-use Rattle.swh_answers.specs.Answers.{TellsDisk, status_of, status_for, last_line_for, printed_by}
+use Rattle.swh_exit.specs.Seen.{FileAt}
+use Rattle.swh_exit.specs.Answers.{TellsDisk, status_of, status_for, last_line_for, printed_by}
 use Rattle.swh_program.specs.Complete.{MeantJob, jobs_of_meant, full_lines, all_made, IsMeant, AreMeant, HasAllGiven, HasBodyOrMakes, HasOneBody, HasRoomForLoads, AreQuiet}
 use Rattle.swh_program.specs.Exact.{line_for, lines_for, ending_of_ends, MeansCollision, IsEndFor, IsExactEnd, AreExactEnds, IsExact}
 use Rattle.swh_program.specs.Found.{found_at, paths_of}
@@ -32,15 +33,15 @@ use Rattle.swh_program.specs.Inputs.{Inputs}
 use Rattle.swh_program.specs.JobLoad.{IsJobLoad}
 use Rattle.swh_program.specs.Lines.{LoadedJob, outcomes, ending_of_end, ending_of_all, worse, TellsLoads}
 use Rattle.swh_program.specs.Load.{Givens, IsLoad, AreLoadedJobs, IsUnloaded, IsLoadedOrNot, LoadEnds}
-use Rattle.swh_answers.specs.Opening.{IsArchive, IsOpenRefusal, OpenEnds}
-use Rattle.swh_answers.specs.Run.{IsQuiet}
-use Rattle.swh_answers.specs.declared.answer.Ending.{Ending}
-use Rattle.swh_answers.specs.declared.answer.Ending.TheVariants as ending
-use Rattle.swh_answers.specs.declared.answer.Answer.{Answer}
-use Rattle.swh_answers.specs.declared.answer.Answer.TheVariants.{Told, OutsideDisk, OutsideSource, OutsideClock, Memory}
+use Rattle.swh_exit.specs.Opening.{IsArchive, IsOpenRefusal, OpenEnds}
+use Rattle.swh_exit.specs.Run.{IsQuiet}
+use Rattle.swh_exit.specs.declared.answer.Ending.{Ending}
+use Rattle.swh_exit.specs.declared.answer.Ending.TheVariants as ending
+use Rattle.swh_exit.specs.declared.answer.Answer.{Answer}
+use Rattle.swh_exit.specs.declared.answer.Answer.TheVariants.{Told, OutsideDisk, OutsideSource, OutsideClock, Memory}
 use Rattle.swh_program.proofs.Archived.{one_archive, opening_of_archive}
-use Rattle.swh_answers.proofs.Statuses.{Tells}
-use Rattle.swh_program.proofs.Elements.{each_among, from_map, flat_contains}
+use Rattle.swh_exit.proofs.Statuses.{Tells}
+use Rattle.swh_program.proofs.Elements.{each_among, flat_contains}
 use Rattle.swh_program.proofs.LoadEndings.{no_disk_faults}
 use Rattle.swh_program.proofs.JobRefusals.{one_list, refusal_of_jobs}
 use Rattle.swh_program.proofs.Loadings.{AreDone, all_done}

@@ -4,8 +4,8 @@ use Rattle.std.proofs.Common.{◌≡◌, ◌⊎◌, inl, inr, ℕ, ◌<◌, ◌�
 use Rattle.swh_outside.specs.Faults.{Rose}
 use Rattle.swh_outside.specs.declared.fault.Opened.{Opened}
 use Rattle.swh_outside.specs.declared.fault.Opened.TheVariants as part
-use Rattle.swh_walk.specs.declared.input.Opening.{Opening}
-use Rattle.swh_walk.specs.declared.input.Opening.TheVariants.{Found, NotFound, Failed, Memory}
+use Rattle.swh_ingest.specs.declared.input.Opening.{Opening}
+use Rattle.swh_ingest.specs.declared.input.Opening.TheVariants.{Found, NotFound, Failed, Memory}
 use Rattle.swh_inputs.specs.Input.{InputText}
 use Rattle.swh_inputs.specs.Input.InputText.{StreamText, FolderText, BatchText}
 use Rattle.swh_inputs.specs.Opening.{found_as, listing_found, found_first, opening_of, kind_of}

@@ -17,7 +17,7 @@ use Rattle.swh_jobs.specs.declared.job.JobLine.{JobLine}
 use Rattle.swh_pool.specs.Loads.{HasHead}
 use Rattle.swh_pool.specs.declared.dated.DatedJob.{DatedJob}
 use Rattle.swh_program.specs.Inputs.{inputs}
-use Rattle.swh_answers.specs.Seen.{Origins}
+use Rattle.swh_exit.specs.Seen.{Origins}
 use Rattle.swh_program.specs.Dated.{AreSaid, IsPartBack, IsOpenedAt, IsKept, between, IsSourceAt, IsFolderAt, IsListingAt, IsInputAt, IsOpenedJob, AreOpenedJobs, IsListingBack, IsGivenBack, AreGivenBack}
 use Rattle.swh_program.proofs.Rises.{rose_since, rose_until}
 

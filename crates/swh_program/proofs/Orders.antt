@@ -2,14 +2,14 @@
 use Rattle.std.proofs.Common.{◌≡◌, ◌⊎◌, inl, inr, ⊎_elim, ℕ, List, refl, sym, ap, ◌∙◌, arith}
 use Rattle.swh_outside.specs.Files.{Files}
 use Rattle.swh_jobs.specs.Job.{Job}
-use Rattle.swh_answers.specs.Seen.{FileAt, Span, DepotFailed, DeskFailed, SinkFailed}
-use Rattle.swh_answers.specs.Answers.{TellsDisk, status_of}
-use Rattle.swh_answers.specs.Run.{IsTold}
+use Rattle.swh_exit.specs.Seen.{FileAt, Span, DepotFailed, DeskFailed, SinkFailed}
+use Rattle.swh_exit.specs.Answers.{TellsDisk, status_of}
+use Rattle.swh_exit.specs.Run.{IsTold}
 use Rattle.swh_program.specs.Jobs.{HasNoJobs}
 use Rattle.swh_program.specs.Load.{Givens, IsLoadedOrNot, LoadEnds}
-use Rattle.swh_answers.specs.Opening.{IsUnusable, IsOpenRefusal, OpenEnds}
-use Rattle.swh_answers.specs.declared.answer.Answer.{Answer}
-use Rattle.swh_answers.specs.declared.answer.Answer.TheVariants.{NotMade, Damaged, OutsideDisk, OutsideSource, OutsideClock, Memory}
+use Rattle.swh_exit.specs.Opening.{IsUnusable, IsOpenRefusal, OpenEnds}
+use Rattle.swh_exit.specs.declared.answer.Answer.{Answer}
+use Rattle.swh_exit.specs.declared.answer.Answer.TheVariants.{NotMade, Damaged, OutsideDisk, OutsideSource, OutsideClock, Memory}
 use Rattle.swh_program.proofs.Archived.{usable}
 use Rattle.swh_program.proofs.JobRefusals.{IsRefusedBy, jobs_or_none, refused_by}
 use Rattle.swh_program.proofs.LoadAnswers.{unloaded_cases, unloaded_clock}

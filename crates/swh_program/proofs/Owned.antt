@@ -17,17 +17,17 @@ use Rattle.swh_keeper.specs.declared.opening.OpenWhy.TheVariants as why
 use Rattle.swh_keeper.proofs.OwnLemmas.{not_damaged, opening_moments, making_leaves_own}
 use Rattle.swh_segment.specs.Calls.{all_calls}
 use Rattle.swh_segment.specs.Moments.{EachFrontMoment}
-use Rattle.swh_answers.specs.Answers.{status_of}
-use Rattle.swh_answers.specs.Damage.{IsUndamaged}
+use Rattle.swh_exit.specs.Answers.{status_of}
+use Rattle.swh_exit.specs.Damage.{IsUndamaged}
 use Rattle.swh_program.specs.InitCommand.{InitEnds}
 use Rattle.swh_program.specs.Jobs.{IsJobRefusal}
-use Rattle.swh_answers.specs.Opening.{IsUnusable}
-use Rattle.swh_answers.specs.Own.{HasOpened, AreAfterCrash, KeepsOwn, EndsOwn}
-use Rattle.swh_answers.specs.Run.{IsExactly, IsTold}
-use Rattle.swh_answers.specs.Seen.{Span}
-use Rattle.swh_answers.specs.declared.answer.Answer.{Answer}
-use Rattle.swh_answers.specs.declared.answer.Answer.TheVariants.{Made, Told, Words, NoJobFile, BadJob, AlreadyMade, NotMade, Damaged, OutsideDisk, OutsideSource, OutsideFolder, OutsideYard, OutsideClock, Memory}
-use Rattle.swh_answers.proofs.Owned.{keeps_same}
+use Rattle.swh_exit.specs.Opening.{IsUnusable}
+use Rattle.swh_exit.specs.Own.{HasOpened, AreAfterCrash, KeepsOwn, EndsOwn}
+use Rattle.swh_exit.specs.Run.{IsExactly, IsTold}
+use Rattle.swh_exit.specs.Seen.{Span}
+use Rattle.swh_exit.specs.declared.answer.Answer.{Answer}
+use Rattle.swh_exit.specs.declared.answer.Answer.TheVariants.{Made, Told, Words, NoJobFile, BadJob, AlreadyMade, NotMade, Damaged, OutsideDisk, OutsideSource, OutsideFolder, OutsideYard, OutsideClock, Memory}
+use Rattle.swh_exit.proofs.Owned.{keeps_same}
 use Rattle.swh_program.proofs.Statuses.{uncut}
 
 -- what a read gives of a file at rest is its one image

@@ -6,22 +6,22 @@ use Rattle.swh_outside.specs.Files.{Files}
 use Rattle.swh_model.specs.declared.event.Event.{Event}
 use Rattle.swh_model.specs.Archive.{Archive}
 use Rattle.swh_model.specs.Step.{IsHistory, replay}
-use Rattle.swh_answers.specs.Seen.{Span, YardFailed, SinkFailed}
-use Rattle.swh_answers.specs.Answers.{TellsDisk, status_of, status_for, printed_by, last_line_for, IsPrinted}
-use Rattle.swh_answers.specs.Archives.{old_archive, new_archive}
-use Rattle.swh_answers.specs.Damage.{damaged_line, IsHarmedAt, IsUndamaged}
-use Rattle.swh_answers.specs.Opening.{IsArchive, IsOnlyOpened, IsUnusable, IsOpenRefusal, OpenEnds}
+use Rattle.swh_exit.specs.Seen.{Span, YardFailed, SinkFailed}
+use Rattle.swh_exit.specs.Answers.{TellsDisk, status_of, status_for, printed_by, last_line_for, IsPrinted}
+use Rattle.swh_exit.specs.Archives.{old_archive, new_archive}
+use Rattle.swh_exit.specs.Damage.{damaged_line, IsHarmedAt, IsUndamaged}
+use Rattle.swh_exit.specs.Opening.{IsArchive, IsOnlyOpened, IsUnusable, IsOpenRefusal, OpenEnds}
 use Rattle.swh_program.specs.Reading.{Telling, IsOfArchive, IsReadAnswer, ReadEnds, Reads, Prints, DoesRead}
-use Rattle.swh_answers.specs.Run.{IsExactly, IsTold}
+use Rattle.swh_exit.specs.Run.{IsExactly, IsTold}
 use Rattle.swh_program.specs.Run.{NamesFailed}
-use Rattle.swh_answers.specs.declared.answer.Ending.{Ending}
-use Rattle.swh_answers.specs.declared.answer.Ending.TheVariants as ending
-use Rattle.swh_answers.specs.declared.answer.Answer.{Answer}
-use Rattle.swh_answers.specs.declared.answer.Answer.TheVariants.{Told, NotMade, Damaged, OutsideDisk, OutsideYard, Memory}
+use Rattle.swh_exit.specs.declared.answer.Ending.{Ending}
+use Rattle.swh_exit.specs.declared.answer.Ending.TheVariants as ending
+use Rattle.swh_exit.specs.declared.answer.Answer.{Answer}
+use Rattle.swh_exit.specs.declared.answer.Answer.TheVariants.{Told, NotMade, Damaged, OutsideDisk, OutsideYard, Memory}
 use Rattle.swh_program.proofs.Archived.{usable, one_archive, harmed, no_archive}
 use Rattle.swh_program.proofs.Completes.{told_unless}
 use Rattle.swh_program.proofs.Damages.{IsLineOfHarm, refusal_harm}
-use Rattle.swh_answers.proofs.Statuses.{stopped}
+use Rattle.swh_exit.proofs.Statuses.{stopped}
 use Rattle.swh_program.proofs.Exacts.{refusal_exactly}
 use Rattle.swh_program.proofs.Owned.{exactly_not_made, ends_own}
 use Rattle.swh_program.proofs.Statuses.{run_exactly, run_never}

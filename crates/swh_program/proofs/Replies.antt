@@ -11,8 +11,8 @@ use Rattle.swh_model.proofs.Entries.{all-append}
 use Rattle.swh_api.specs.Get.{IsReplyToGet}
 use Rattle.swh_api.proofs.Unique.{one_reply_to_get}
 use Rattle.swh_program.specs.AskCommand.{reply_line, AreReplies, AreFound, HasShortReply, IsEndingOf, TellsArchive}
-use Rattle.swh_answers.specs.declared.answer.Ending.{Ending}
-use Rattle.swh_answers.specs.declared.answer.Ending.TheVariants.{Wanting}
+use Rattle.swh_exit.specs.declared.answer.Ending.{Ending}
+use Rattle.swh_exit.specs.declared.answer.Ending.TheVariants.{Wanting}
 
 -- there is one list of replies to paths
 pub same_replies : (a : Archive) (paths : List (List ℕ)) (rs ss : List ReplyText) → AreReplies a paths rs → AreReplies a paths ss → rs ≡ ss

@@ -14,13 +14,13 @@ use Rattle.swh_model.specs.Step.{IsHistory}
 use Rattle.swh_model.proofs.Histories.{fronts}
 use Rattle.swh_format.specs.EventRecord.{AreCodable}
 use Rattle.swh_inputs.specs.Input.{InputText}
-use Rattle.swh_walk.specs.Owning.{Attempt, open_event}
-use Rattle.swh_walk.specs.Visiting.{next_visit, IsVisit}
-use Rattle.swh_walk.specs.declared.stop.Stop.{Stop}
-use Rattle.swh_walk.specs.declared.stop.Stop.TheVariants as why
-use Rattle.swh_walk.specs.declared.end.LoadFault.{LoadFault}
-use Rattle.swh_alone.specs.Loading.{AddsVisit, IsOpen}
-use Rattle.swh_alone.proofs.Allowing.{adds_visit}
+use Rattle.swh_ingest.specs.Owning.{Attempt, open_event}
+use Rattle.swh_ingest.specs.Visiting.{next_visit, IsVisit}
+use Rattle.swh_ingest.specs.declared.stop.Stop.{Stop}
+use Rattle.swh_ingest.specs.declared.stop.Stop.TheVariants as why
+use Rattle.swh_ingest.specs.declared.end.LoadFault.{LoadFault}
+use Rattle.swh_keeperload.specs.Loading.{AddsVisit, IsOpen}
+use Rattle.swh_keeperload.proofs.Allowing.{adds_visit}
 use Rattle.swh_loader.specs.Ending.{statuses_of}
 use Rattle.swh_loader.specs.declared.end.Loaded.{Loaded}
 use Rattle.swh_loader.proofs.Marks.{others, others_none, others_most, ended_most}

@@ -20,11 +20,11 @@ use Rattle.swh_model.specs.Step.{first_of, IsHistory, after, after_kind, after_a
 use Rattle.swh_model.proofs.Histories.{fronts}
 use Rattle.swh_model.proofs.Maps.{visits_cases}
 use Rattle.swh_model.proofs.Visits.{all-map}
-use Rattle.swh_walk.specs.Loading.{IsOwn}
-use Rattle.swh_walk.specs.Owning.{Attempt}
-use Rattle.swh_walk.specs.Visiting.{IsVisit, next_visit, visit_with}
-use Rattle.swh_walk.specs.Walking.{IsBy}
-use Rattle.swh_walk.specs.declared.end.LoadFault.{LoadFault}
+use Rattle.swh_ingest.specs.Loading.{IsOwn}
+use Rattle.swh_ingest.specs.Owning.{Attempt}
+use Rattle.swh_ingest.specs.Visiting.{IsVisit, next_visit, visit_with}
+use Rattle.swh_ingest.specs.Walking.{IsBy}
+use Rattle.swh_ingest.specs.declared.end.LoadFault.{LoadFault}
 use Rattle.swh_loader.specs.Ending.{statuses_of}
 use Rattle.swh_loader.specs.declared.end.Loaded.{Loaded}
 use Rattle.swh_program.specs.Inputs.{Inputs, input_of, IsOfJob}

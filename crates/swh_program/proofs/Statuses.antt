@@ -1,14 +1,14 @@
 -- The status of a run, from its answer, and the part that the answer names.
 use Rattle.std.proofs.Common.{◌≡◌, ◌≢◌, ◌⊎◌, inl, inr, ℕ, ◌<◌, ◌≤◌, List, sym, ◌∙◌, subst, arith}
 use Rattle.swh_base.specs.declared.kind.Kind.{Kind}
-use Rattle.swh_answers.specs.Seen.{Span}
-use Rattle.swh_answers.specs.Answers.{TellsDisk, status_of, IsPrinted}
+use Rattle.swh_exit.specs.Seen.{Span}
+use Rattle.swh_exit.specs.Answers.{TellsDisk, status_of, IsPrinted}
 use Rattle.swh_identify.specs.IdentifyCommand.{IsIdentifyAnswer}
 use Rattle.swh_program.specs.InitCommand.{IsInitAnswer}
-use Rattle.swh_answers.specs.Run.{ComesTo, IsExactly, IsTold}
-use Rattle.swh_answers.specs.declared.answer.Ending.TheVariants as ending
-use Rattle.swh_answers.specs.declared.answer.Answer.{Answer}
-use Rattle.swh_answers.specs.declared.answer.Answer.TheVariants.{Told, OutsideDisk}
+use Rattle.swh_exit.specs.Run.{ComesTo, IsExactly, IsTold}
+use Rattle.swh_exit.specs.declared.answer.Ending.TheVariants as ending
+use Rattle.swh_exit.specs.declared.answer.Answer.{Answer}
+use Rattle.swh_exit.specs.declared.answer.Answer.TheVariants.{Told, OutsideDisk}
 
 -- what an answer comes to, the run does
 module _ (answer : Answer) (s : Span) (status : ℕ) where

@@ -17,14 +17,14 @@ use Rattle.swh_model.specs.Judge.{FilePasses}
 use Rattle.swh_model.specs.Step.{May, IsHistory, replay}
 use Rattle.swh_model.proofs.Histories.{fronts}
 use Rattle.swh_model.proofs.Visits.{all-map}
-use Rattle.swh_alone.specs.Loading.{AreOfVisit, IsOwnEvent, IsOpen}
-use Rattle.swh_walk.specs.Loading.{IsOwn}
-use Rattle.swh_walk.specs.Owning.{Attempt, open_event, marks_of}
-use Rattle.swh_walk.specs.Visiting.{IsVisit, next_visit}
-use Rattle.swh_walk.specs.Walking.{IsBy}
-use Rattle.swh_walk.specs.declared.stop.Stop.{Stop}
-use Rattle.swh_walk.specs.declared.stop.Stop.TheVariants as why
-use Rattle.swh_walk.specs.declared.end.LoadFault.{LoadFault}
+use Rattle.swh_keeperload.specs.Loading.{AreOfVisit, IsOwnEvent, IsOpen}
+use Rattle.swh_ingest.specs.Loading.{IsOwn}
+use Rattle.swh_ingest.specs.Owning.{Attempt, open_event, marks_of}
+use Rattle.swh_ingest.specs.Visiting.{IsVisit, next_visit}
+use Rattle.swh_ingest.specs.Walking.{IsBy}
+use Rattle.swh_ingest.specs.declared.stop.Stop.{Stop}
+use Rattle.swh_ingest.specs.declared.stop.Stop.TheVariants as why
+use Rattle.swh_ingest.specs.declared.end.LoadFault.{LoadFault}
 use Rattle.swh_loader.specs.Ending.{statuses_of}
 use Rattle.swh_loader.specs.declared.end.BadInput.TheVariants.{Broken, Collision, Read}
 use Rattle.swh_loader.specs.declared.end.End.{End}

@@ -6,13 +6,13 @@ use Rattle.swh_model.specs.Archive.{Archive}
 use Rattle.swh_model.specs.Step.{replay}
 use Rattle.swh_model.specs.Answer.{ReplyText}
 use Rattle.swh_api.specs.Get.{IsReplyToGet}
-use Rattle.swh_answers.specs.Seen.{Span, DepotFailed, SinkFailed}
-use Rattle.swh_answers.specs.Archives.{old_archive}
-use Rattle.swh_answers.specs.Opening.{IsArchive}
+use Rattle.swh_exit.specs.Seen.{Span, DepotFailed, SinkFailed}
+use Rattle.swh_exit.specs.Archives.{old_archive}
+use Rattle.swh_exit.specs.Opening.{IsArchive}
 use Rattle.swh_program.specs.Reading.{Telling, DoesRead}
-use Rattle.swh_answers.specs.Run.{IsExactly, IsPrintedWith}
-use Rattle.swh_answers.specs.declared.answer.Ending.{Ending}
-use Rattle.swh_answers.specs.declared.answer.Ending.TheVariants.{Done, Wanting}
+use Rattle.swh_exit.specs.Run.{IsExactly, IsPrintedWith}
+use Rattle.swh_exit.specs.declared.answer.Ending.{Ending}
+use Rattle.swh_exit.specs.declared.answer.Ending.TheVariants.{Done, Wanting}
 
 -- a reply as it is printed: its status, the length of its body, and the body
 abbrev pub reply_line : ReplyText → List ℕ

@@ -6,10 +6,10 @@ use Rattle.swh_model.specs.Archive.{Archive}
 use Rattle.swh_check.specs.Bodies.{IsDamage}
 use Rattle.swh_check.specs.Counts.{IsReport}
 use Rattle.swh_check.specs.declared.report.Report.{Report}
-use Rattle.swh_answers.specs.Seen.{Span}
-use Rattle.swh_answers.specs.Damage.{damaged_body_line}
+use Rattle.swh_exit.specs.Seen.{Span}
+use Rattle.swh_exit.specs.Damage.{damaged_body_line}
 use Rattle.swh_program.specs.Reading.{Telling, DoesRead}
-use Rattle.swh_answers.specs.declared.answer.Ending.TheVariants.{Done}
+use Rattle.swh_exit.specs.declared.answer.Ending.TheVariants.{Done}
 
 -- the counts of an archive as they are printed: names that are held, those of them that full visits reach, and visits
 abbrev pub report_line : Report → List ℕ

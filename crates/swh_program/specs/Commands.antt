@@ -3,7 +3,7 @@ use Rattle.std.specs.Prelude.{ℕ, List, map}
 use Rattle.swh_base.specs.declared.kind.Kind.{Kind}
 use Rattle.swh_model.specs.Archive.{Archive}
 use Rattle.swh_words.specs.Words.{Wanted, ToInit, ToLoad, ToAsk, ToCheck, ToCook, ToIdentify, ToIdentifyFolder}
-use Rattle.swh_answers.specs.Seen.{Span}
+use Rattle.swh_exit.specs.Seen.{Span}
 use Rattle.swh_program.specs.InitCommand.{Inits, DoesInit}
 use Rattle.swh_program.specs.LoadCommand.{Loads, DoesLoad}
 use Rattle.swh_program.specs.AskCommand.{asking, DoesAsk}
@@ -13,7 +13,7 @@ use Rattle.swh_identify.specs.IdentifyCommand.{Identifies, DoesIdentify}
 use Rattle.swh_identify.specs.IdentifyFolderCommand.{IdentifiesFolder, DoesIdentifyFolder}
 use Rattle.swh_program.specs.Reading.{Telling, Reads}
 use Rattle.swh_program.specs.Yards.{Yards}
-use Rattle.swh_answers.specs.declared.answer.Answer.{Answer}
+use Rattle.swh_exit.specs.declared.answer.Answer.{Answer}
 use Rattle.swh_program.specs.declared.reading.Reading.{Reading}
 use Rattle.swh_program.specs.declared.reading.Reading.TheVariants.{Ask, Check, Cook}
 

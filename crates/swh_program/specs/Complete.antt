@@ -15,11 +15,11 @@ use Rattle.swh_model.specs.Meaning.{Made, StreamMeaning}
 use Rattle.swh_base.specs.Snapshot.{snapshot_name}
 use Rattle.swh_inputs.specs.Input.{InputText, MeansInput}
 use Rattle.swh_inputs.specs.Streaming.{MayGiveInput}
-use Rattle.swh_walk.specs.Visiting.{next_visit}
+use Rattle.swh_ingest.specs.Visiting.{next_visit}
 use Rattle.swh_loader.specs.Room.{ledger_growth, store_growth}
 use Rattle.swh_program.specs.Found.{found_at, paths_of}
-use Rattle.swh_answers.specs.Seen.{FileAt, FolderAt}
-use Rattle.swh_answers.specs.Run.{IsQuiet}
+use Rattle.swh_exit.specs.Seen.{FileAt, FolderAt}
+use Rattle.swh_exit.specs.Run.{IsQuiet}
 
 -- a job and what its input makes
 pub record MeantJob : Type 0 where

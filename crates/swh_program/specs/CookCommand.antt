@@ -19,21 +19,21 @@ use Rattle.swh_carried.specs.declared.fault.CookFault.{CookFault}
 use Rattle.swh_carried.specs.declared.fault.CookFault.TheVariants as fault
 use Rattle.swh_cook.specs.Back.{IsAgain}
 use Rattle.swh_cook.specs.Cook.{IsCarried, IsUncarried, IsCooked, IsBrokenOff}
-use Rattle.swh_answers.specs.Seen.{Span, DepotFailed, YardFailed, SinkFailed}
-use Rattle.swh_answers.specs.Answers.{TellsLine}
-use Rattle.swh_answers.specs.Archives.{old_archive, new_archive}
-use Rattle.swh_answers.specs.Damage.{damaged_line, IsHarmedAt}
-use Rattle.swh_answers.specs.LeftAlone.{TouchesNothing}
-use Rattle.swh_answers.specs.Opening.{IsArchive, IsUnusable}
-use Rattle.swh_answers.specs.Own.{EndsOwn}
+use Rattle.swh_exit.specs.Seen.{Span, DepotFailed, YardFailed, SinkFailed}
+use Rattle.swh_exit.specs.Answers.{TellsLine}
+use Rattle.swh_exit.specs.Archives.{old_archive, new_archive}
+use Rattle.swh_exit.specs.Damage.{damaged_line, IsHarmedAt}
+use Rattle.swh_exit.specs.LeftAlone.{TouchesNothing}
+use Rattle.swh_exit.specs.Opening.{IsArchive, IsUnusable}
+use Rattle.swh_exit.specs.Own.{EndsOwn}
 use Rattle.swh_program.specs.Reading.{Telling, OfHistory, OfArchive, Reads}
-use Rattle.swh_answers.specs.Refusal.{refusal}
-use Rattle.swh_answers.specs.Run.{IsExactly, Ends, IsPrintedUnlessFailed}
+use Rattle.swh_exit.specs.Refusal.{refusal}
+use Rattle.swh_exit.specs.Run.{IsExactly, Ends, IsPrintedUnlessFailed}
 use Rattle.swh_program.specs.Yards.{Yards, yards_of}
-use Rattle.swh_answers.specs.declared.answer.Ending.{Ending}
-use Rattle.swh_answers.specs.declared.answer.Ending.TheVariants as ending
-use Rattle.swh_answers.specs.declared.answer.Answer.{Answer}
-use Rattle.swh_answers.specs.declared.answer.Answer.TheVariants.{Told, OutsideYard, Memory}
+use Rattle.swh_exit.specs.declared.answer.Ending.{Ending}
+use Rattle.swh_exit.specs.declared.answer.Ending.TheVariants as ending
+use Rattle.swh_exit.specs.declared.answer.Answer.{Answer}
+use Rattle.swh_exit.specs.declared.answer.Answer.TheVariants.{Told, OutsideYard, Memory}
 
 -- a head as it is printed: as it stands, and `-` where there is none
 abbrev pub head_text : Option (List ℕ) → List ℕ

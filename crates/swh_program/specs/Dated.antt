@@ -11,7 +11,7 @@ use Rattle.swh_jobs.specs.Job.{Job, JobInput}
 use Rattle.swh_jobs.specs.Job.JobInput.{StreamAt, FolderAt as FolderIn, BatchAt}
 use Rattle.swh_pool.specs.declared.dated.DatedJob.{DatedJob}
 use Rattle.swh_program.specs.Inputs.{Inputs, inputs}
-use Rattle.swh_answers.specs.Seen.{FileAt, FolderAt, Origins}
+use Rattle.swh_exit.specs.Seen.{FileAt, FolderAt, Origins}
 
 -- The clock said these dates, one after another.
 abbrev pub AreSaid : (ℕ → ℕ) → List ℕ → Type 0

@@ -12,13 +12,13 @@ use Rattle.swh_loader.specs.declared.end.BadInput.TheVariants.{Broken, Collision
 use Rattle.swh_loader.specs.declared.end.End.{End}
 use Rattle.swh_loader.specs.declared.end.End.TheVariants.{Full, NotFound, Failed}
 use Rattle.swh_program.specs.Inputs.{Inputs, input_of}
-use Rattle.swh_answers.specs.Answers.{status_of}
+use Rattle.swh_exit.specs.Answers.{status_of}
 use Rattle.swh_program.specs.Complete.{HasBodyOrMakes, HasOneBody}
 use Rattle.swh_program.specs.Lines.{ending_of_end, worse}
-use Rattle.swh_answers.specs.declared.answer.Ending.{Ending}
-use Rattle.swh_answers.specs.declared.answer.Ending.TheVariants as ending
-use Rattle.swh_answers.specs.declared.answer.Answer.{Answer}
-use Rattle.swh_answers.specs.declared.answer.Answer.TheVariants.{Told}
+use Rattle.swh_exit.specs.declared.answer.Ending.{Ending}
+use Rattle.swh_exit.specs.declared.answer.Ending.TheVariants as ending
+use Rattle.swh_exit.specs.declared.answer.Answer.{Answer}
+use Rattle.swh_exit.specs.declared.answer.Answer.TheVariants.{Told}
 
 -- the line of a visit that ended so: the origin, the number of its next visit, the status and the detail
 abbrev pub line_for : Archive → Job → End → List ℕ

@@ -7,7 +7,7 @@ use Rattle.swh_inputs.specs.Input.InputText.{StreamText, FolderText, BatchText}
 use Rattle.swh_inputs.specs.Parts.{both_given}
 use Rattle.swh_jobs.specs.Job.{JobInput, fields_of}
 use Rattle.swh_jobs.specs.Job.JobInput.{StreamAt, FolderAt as FolderIn, BatchAt}
-use Rattle.swh_answers.specs.Seen.{FileAt, FolderAt}
+use Rattle.swh_exit.specs.Seen.{FileAt, FolderAt}
 
 -- the kind of the visits that load it
 abbrev pub kind_at : JobInput → VisitKind

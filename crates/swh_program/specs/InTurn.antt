@@ -7,12 +7,12 @@ use Rattle.swh_base.specs.declared.visit.Which.{Which}
 use Rattle.swh_model.specs.declared.event.Event.{Event}
 use Rattle.swh_model.specs.Judge.{FilePasses}
 use Rattle.swh_model.specs.Step.{May, replay}
-use Rattle.swh_walk.specs.Owning.{Attempt, open_event}
-use Rattle.swh_walk.specs.Visiting.{next_visit, IsVisit}
-use Rattle.swh_walk.specs.declared.stop.Stop.{Stop}
-use Rattle.swh_walk.specs.declared.stop.Stop.TheVariants as why
-use Rattle.swh_walk.specs.declared.end.LoadFault.{LoadFault}
-use Rattle.swh_alone.specs.Loading.{AreOfVisit, AddsVisit, IsOpen}
+use Rattle.swh_ingest.specs.Owning.{Attempt, open_event}
+use Rattle.swh_ingest.specs.Visiting.{next_visit, IsVisit}
+use Rattle.swh_ingest.specs.declared.stop.Stop.{Stop}
+use Rattle.swh_ingest.specs.declared.stop.Stop.TheVariants as why
+use Rattle.swh_ingest.specs.declared.end.LoadFault.{LoadFault}
+use Rattle.swh_keeperload.specs.Loading.{AreOfVisit, AddsVisit, IsOpen}
 use Rattle.swh_loader.specs.Ending.{statuses_of}
 use Rattle.swh_loader.specs.declared.end.Loaded.{Loaded}
 use Rattle.swh_program.specs.Inputs.{loader, Inputs, Input, input_of, IsOfInput, IsInputEnd, IsOfJob}

@@ -5,14 +5,14 @@ use Rattle.swh_outside.specs.Disk.{EachImage}
 use Rattle.swh_outside.specs.Files.{Files, EachImages, EachFilesMoment, FilesBreaks, files_done}
 use Rattle.swh_segment.specs.Making.{IsMade, IsNotMade, IsNotMadeOrEmpty, IsEmptyArchive, IsCrashSafe, making_calls}
 use Rattle.swh_keeper.specs.Own.{AreUsable, AreOwn}
-use Rattle.swh_answers.specs.Seen.{Span, DepotFailed, SinkFailed}
-use Rattle.swh_answers.specs.Answers.{last_line_of}
-use Rattle.swh_answers.specs.Archives.{old_archive, new_archive, SameElsewhere}
-use Rattle.swh_answers.specs.LeftAlone.{IsOnDepot}
-use Rattle.swh_answers.specs.Own.{KeepsOwn, EndsOwn}
-use Rattle.swh_answers.specs.Run.{IsExactly, Ends, IsPrintedWith}
-use Rattle.swh_answers.specs.declared.answer.Answer.{Answer}
-use Rattle.swh_answers.specs.declared.answer.Answer.TheVariants.{Made, AlreadyMade, OutsideDisk, Memory}
+use Rattle.swh_exit.specs.Seen.{Span, DepotFailed, SinkFailed}
+use Rattle.swh_exit.specs.Answers.{last_line_of}
+use Rattle.swh_exit.specs.Archives.{old_archive, new_archive, SameElsewhere}
+use Rattle.swh_exit.specs.LeftAlone.{IsOnDepot}
+use Rattle.swh_exit.specs.Own.{KeepsOwn, EndsOwn}
+use Rattle.swh_exit.specs.Run.{IsExactly, Ends, IsPrintedWith}
+use Rattle.swh_exit.specs.declared.answer.Answer.{Answer}
+use Rattle.swh_exit.specs.declared.answer.Answer.TheVariants.{Made, AlreadyMade, OutsideDisk, Memory}
 
 -- All device calls of the making were made, and the disks stand for the empty history, nothing written since a barrier.
 pub record IsMaking (old new : Files) : Type 0 where

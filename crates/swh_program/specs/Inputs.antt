@@ -12,7 +12,7 @@ use Rattle.swh_loader.specs.declared.end.BadInput.TheVariants.{Broken, Collision
 use Rattle.swh_loader.specs.declared.end.End.{End}
 use Rattle.swh_loader.specs.declared.end.End.TheVariants.{Full, NotFound, Failed}
 use Rattle.swh_program.specs.Found.{kind_at, found_at, HasFailed}
-use Rattle.swh_answers.specs.Seen.{FileAt, FolderAt}
+use Rattle.swh_exit.specs.Seen.{FileAt, FolderAt}
 
 -- who loads the jobs of a run
 abbrev pub loader : ℕ

@@ -10,13 +10,13 @@ use Rattle.swh_base.specs.Visit.{Statuses, IsFinal, last_status}
 use Rattle.swh_model.specs.declared.event.Event.{Event}
 use Rattle.swh_model.specs.Judge.{FilePasses}
 use Rattle.swh_model.specs.Step.{May, replay}
-use Rattle.swh_walk.specs.Loading.{IsOwn}
-use Rattle.swh_walk.specs.Owning.{Attempt, attempt, open_event, marks_of}
-use Rattle.swh_walk.specs.Visiting.{next_visit, IsVisit, HasLast}
-use Rattle.swh_walk.specs.Walking.{IsBy}
-use Rattle.swh_walk.specs.declared.stop.Stop.{Stop}
-use Rattle.swh_walk.specs.declared.stop.Stop.TheVariants as why
-use Rattle.swh_walk.specs.declared.end.LoadFault.{LoadFault}
+use Rattle.swh_ingest.specs.Loading.{IsOwn}
+use Rattle.swh_ingest.specs.Owning.{Attempt, attempt, open_event, marks_of}
+use Rattle.swh_ingest.specs.Visiting.{next_visit, IsVisit, HasLast}
+use Rattle.swh_ingest.specs.Walking.{IsBy}
+use Rattle.swh_ingest.specs.declared.stop.Stop.{Stop}
+use Rattle.swh_ingest.specs.declared.stop.Stop.TheVariants as why
+use Rattle.swh_ingest.specs.declared.end.LoadFault.{LoadFault}
 use Rattle.swh_loader.specs.Ending.{statuses_of}
 use Rattle.swh_loader.specs.declared.end.Loaded.{Loaded}
 use Rattle.swh_program.specs.Found.{kind_at}

@@ -4,10 +4,10 @@ use Rattle.swh_jobs.specs.Job.{Job}
 use Rattle.swh_jobs.specs.JobFile.{IsJobFile, IsJobFileFault}
 use Rattle.swh_jobs.specs.declared.fault.JobWhy.{JobWhy}
 use Rattle.swh_jobs.specs.declared.fault.JobWhy.TheVariants.{Form, Origin, Limit}
-use Rattle.swh_answers.specs.Refusal.{refusal}
-use Rattle.swh_answers.specs.Seen.{FileAt}
-use Rattle.swh_answers.specs.declared.answer.Answer.{Answer}
-use Rattle.swh_answers.specs.declared.answer.Answer.TheVariants.{NoJobFile, BadJob, OutsideSource, Memory}
+use Rattle.swh_exit.specs.Refusal.{refusal}
+use Rattle.swh_exit.specs.Seen.{FileAt}
+use Rattle.swh_exit.specs.declared.answer.Answer.{Answer}
+use Rattle.swh_exit.specs.declared.answer.Answer.TheVariants.{NoJobFile, BadJob, OutsideSource, Memory}
 
 -- The file at the path is a job file of these jobs.
 pub record AreJobsAt (file_at : FileAt) (path : List ℕ) (jobs : List Job) : Type 0 where

@@ -19,14 +19,14 @@ use Rattle.swh_jobs.specs.JobFile.{AreJobs, AreDistinct, origins}
 use Rattle.swh_segment.specs.Calls.{all_calls}
 use Rattle.swh_segment.specs.Moments.{IsSafelyMade, IsSafelyBroken, IsSafeOpening}
 use Rattle.swh_loader.specs.declared.end.Loaded.{Loaded}
-use Rattle.swh_walk.specs.declared.end.LoadFault.{LoadFault}
+use Rattle.swh_ingest.specs.declared.end.LoadFault.{LoadFault}
 use Rattle.swh_pool.specs.Stops.{AreStops, AreStopsOfMany, HaveNoDiskFault, HaveNoMemoryStop}
-use Rattle.swh_answers.specs.Seen.{FileAt}
+use Rattle.swh_exit.specs.Seen.{FileAt}
 use Rattle.swh_program.specs.Dated.{AreSaid}
 use Rattle.swh_program.specs.Jobs.{AreJobsAt, IsJobRefusal, IsJobRefused}
-use Rattle.swh_answers.specs.Opening.{IsArchive, IsOnlyOpened, IsOpenRefusal, OpenEnds}
-use Rattle.swh_answers.specs.declared.answer.Answer.{Answer}
-use Rattle.swh_answers.specs.declared.answer.Answer.TheVariants.{OutsideClock}
+use Rattle.swh_exit.specs.Opening.{IsArchive, IsOnlyOpened, IsOpenRefusal, OpenEnds}
+use Rattle.swh_exit.specs.declared.answer.Answer.{Answer}
+use Rattle.swh_exit.specs.declared.answer.Answer.TheVariants.{OutsideClock}
 use Rattle.swh_program.specs.Inputs.{Inputs}
 use Rattle.swh_program.specs.InTurn.{AreLoadsInTurn, IsNextOf}
 use Rattle.swh_program.specs.JobLoad.{IsJobLoad, NamesNext}

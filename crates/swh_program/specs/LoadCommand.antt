@@ -8,24 +8,24 @@ use Rattle.swh_jobs.specs.Job.{Job}
 use Rattle.swh_jobs.specs.declared.fault.JobWhy.{JobWhy}
 use Rattle.swh_segment.specs.Making.{IsNotMade}
 use Rattle.swh_keeper.specs.Own.{AreOwn}
-use Rattle.swh_answers.specs.Seen.{Span, DepotFailed, DeskFailed, ClockFailed, SinkFailed}
-use Rattle.swh_answers.specs.Answers.{TellsDisk}
-use Rattle.swh_answers.specs.Archives.{old_archive, new_archive, SameElsewhere}
+use Rattle.swh_exit.specs.Seen.{Span, DepotFailed, DeskFailed, ClockFailed, SinkFailed}
+use Rattle.swh_exit.specs.Answers.{TellsDisk}
+use Rattle.swh_exit.specs.Archives.{old_archive, new_archive, SameElsewhere}
 use Rattle.swh_program.specs.Causes.{IsFullLine, HasShortLine, IsBadInput}
 use Rattle.swh_program.specs.Complete.{MeantJob, jobs_of_meant, full_lines, all_made, AreMeant, HasAllGiven, HasOneBody, HasRoomForLoads, AreQuiet}
 use Rattle.swh_program.specs.Exact.{IsExact}
 use Rattle.swh_program.specs.Found.{found_at}
 use Rattle.swh_program.specs.Inputs.{Inputs, inputs}
 use Rattle.swh_program.specs.Jobs.{HasJobs, HasNoJobs, AreJobsAt, IsBadAt, bad_job_line}
-use Rattle.swh_answers.specs.Damage.{damaged_line, IsHarmedAt}
-use Rattle.swh_answers.specs.LeftAlone.{IsRefusedInOrder}
+use Rattle.swh_exit.specs.Damage.{damaged_line, IsHarmedAt}
+use Rattle.swh_exit.specs.LeftAlone.{IsRefusedInOrder}
 use Rattle.swh_program.specs.Lines.{LoadedJob, outcomes, load_line}
 use Rattle.swh_program.specs.Load.{Givens, IsLoad, LoadEnds}
-use Rattle.swh_answers.specs.Opening.{IsArchive, IsUnusable, IsAtMostOpened}
-use Rattle.swh_answers.specs.Own.{KeepsOwn, EndsOwn}
-use Rattle.swh_answers.specs.Run.{ComesTo, IsExactly, Ends, IsPrintedWith, IsPrintedUnlessFailed}
-use Rattle.swh_answers.specs.declared.answer.Answer.{Answer}
-use Rattle.swh_answers.specs.declared.answer.Answer.TheVariants.{OutsideSource, OutsideClock}
+use Rattle.swh_exit.specs.Opening.{IsArchive, IsUnusable, IsAtMostOpened}
+use Rattle.swh_exit.specs.Own.{KeepsOwn, EndsOwn}
+use Rattle.swh_exit.specs.Run.{ComesTo, IsExactly, Ends, IsPrintedWith, IsPrintedUnlessFailed}
+use Rattle.swh_exit.specs.declared.answer.Answer.{Answer}
+use Rattle.swh_exit.specs.declared.answer.Answer.TheVariants.{OutsideSource, OutsideClock}
 
 -- the inputs of the jobs of a run
 abbrev pub inputs_of : Span → Inputs

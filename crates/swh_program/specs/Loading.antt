@@ -10,9 +10,9 @@ use Rattle.swh_program.specs.Dated.{AreSaid}
 use Rattle.swh_program.specs.Lines.{LoadedJob, dates, outcomes, ending_of_all, TellsLoad}
 use Rattle.swh_program.specs.InTurn.{AreLoadsInTurn, IsNextOf}
 use Rattle.swh_program.specs.Load.{Givens}
-use Rattle.swh_answers.specs.declared.answer.Ending.TheVariants as ending
-use Rattle.swh_answers.specs.declared.answer.Answer.{Answer}
-use Rattle.swh_answers.specs.declared.answer.Answer.TheVariants.{OutsideClock, Memory}
+use Rattle.swh_exit.specs.declared.answer.Ending.TheVariants as ending
+use Rattle.swh_exit.specs.declared.answer.Answer.{Answer}
+use Rattle.swh_exit.specs.declared.answer.Answer.TheVariants.{OutsideClock, Memory}
 
 -- Before any load the clock failed, or memory ran out.
 abbrev pub IsUnstarted : Answer → Type 0

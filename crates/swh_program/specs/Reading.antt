@@ -11,17 +11,17 @@ use Rattle.swh_segment.specs.Making.{IsNotMade}
 use Rattle.swh_keeper.specs.Kept.{Kept}
 use Rattle.swh_keeper.specs.Own.{AreOwn}
 use Rattle.swh_keeper.specs.Stored.{IsReadAgain}
-use Rattle.swh_answers.specs.Seen.{Span, DepotFailed, SinkFailed}
-use Rattle.swh_answers.specs.Answers.{status_for}
-use Rattle.swh_answers.specs.Archives.{old_archive, new_archive, SameElsewhere}
-use Rattle.swh_answers.specs.Damage.{damaged_line, IsDamagedLine, IsHarmedAt}
-use Rattle.swh_answers.specs.LeftAlone.{IsOnDepot}
-use Rattle.swh_answers.specs.Own.{KeepsOwn, EndsOwn}
-use Rattle.swh_answers.specs.Run.{IsExactly, Ends, IsPrintedUnlessFailed}
-use Rattle.swh_answers.specs.Opening.{IsArchive, IsUnusable, IsOnlyOpened, IsOpenRefusal, OpenEnds}
-use Rattle.swh_answers.specs.declared.answer.Ending.{Ending}
-use Rattle.swh_answers.specs.declared.answer.Answer.{Answer}
-use Rattle.swh_answers.specs.declared.answer.Answer.TheVariants.{Told, Damaged, OutsideDisk, OutsideYard, Memory}
+use Rattle.swh_exit.specs.Seen.{Span, DepotFailed, SinkFailed}
+use Rattle.swh_exit.specs.Answers.{status_for}
+use Rattle.swh_exit.specs.Archives.{old_archive, new_archive, SameElsewhere}
+use Rattle.swh_exit.specs.Damage.{damaged_line, IsDamagedLine, IsHarmedAt}
+use Rattle.swh_exit.specs.LeftAlone.{IsOnDepot}
+use Rattle.swh_exit.specs.Own.{KeepsOwn, EndsOwn}
+use Rattle.swh_exit.specs.Run.{IsExactly, Ends, IsPrintedUnlessFailed}
+use Rattle.swh_exit.specs.Opening.{IsArchive, IsUnusable, IsOnlyOpened, IsOpenRefusal, OpenEnds}
+use Rattle.swh_exit.specs.declared.answer.Ending.{Ending}
+use Rattle.swh_exit.specs.declared.answer.Answer.{Answer}
+use Rattle.swh_exit.specs.declared.answer.Answer.TheVariants.{Told, Damaged, OutsideDisk, OutsideYard, Memory}
 
 -- What a command has to tell of an archive: the text, with how the run ends; the line of a damage that it may find in an
 -- archive that opens, where the disks do not tell; and how it ends where the yard fails.

@@ -1,12 +1,12 @@
 -- How a run ends whose words are no command, and which part of the outside has failed.
 use Rattle.std.specs.Prelude.{◌≡◌, ◌⊎◌, ℕ, List}
 use Rattle.swh_words.specs.Words.{Wanted, IsCommand}
-use Rattle.swh_answers.specs.Seen.{Span, DepotFailed, DeskFailed, YardFailed, ClockFailed, SinkFailed}
-use Rattle.swh_answers.specs.Answers.{TellsDisk}
-use Rattle.swh_answers.specs.LeftAlone.{TouchesNothing}
-use Rattle.swh_answers.specs.Run.{ComesTo, Ends}
-use Rattle.swh_answers.specs.declared.answer.Answer.{Answer}
-use Rattle.swh_answers.specs.declared.answer.Answer.TheVariants.{Words, OutsideSource, OutsideFolder, OutsideYard, OutsideClock, Memory}
+use Rattle.swh_exit.specs.Seen.{Span, DepotFailed, DeskFailed, YardFailed, ClockFailed, SinkFailed}
+use Rattle.swh_exit.specs.Answers.{TellsDisk}
+use Rattle.swh_exit.specs.LeftAlone.{TouchesNothing}
+use Rattle.swh_exit.specs.Run.{ComesTo, Ends}
+use Rattle.swh_exit.specs.declared.answer.Answer.{Answer}
+use Rattle.swh_exit.specs.declared.answer.Answer.TheVariants.{Words, OutsideSource, OutsideFolder, OutsideYard, OutsideClock, Memory}
 
 -- The words are no command.
 abbrev pub IsNoCommand : List (List ℕ) → Type 0

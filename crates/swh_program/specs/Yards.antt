@@ -1,6 +1,6 @@
 -- What contracts see of the yard over a run.
 use Rattle.swh_dircook.specs.Made.{Yarded, yarded}
-use Rattle.swh_answers.specs.Seen.{Span, YardFailed}
+use Rattle.swh_exit.specs.Seen.{Span, YardFailed}
 
 -- a yard over a run: whether it tells what is made in it, what it tells at the start and at the end, that it is as it was,
 -- and that it failed

@@ -2,18 +2,18 @@
 ghost use Rattle.std.specs.Prelude.{◌≡◌, ◌≢◌, ◌⊎◌, ◌++◌, IfOk, OnOk, map};
 ghost use Rattle.swh_api.specs.Get.{text_of};
 ghost use Rattle.swh_program.specs.AskCommand.{reply_line, TellsArchive, asking};
-ghost use Rattle.swh_answers.specs.Damage.{IsUndamaged};
+ghost use Rattle.swh_exit.specs.Damage.{IsUndamaged};
 ghost use Rattle.swh_program.specs.Reading.{IsOfArchive};
 ghost use Rattle.swh_replay.specs.Replay.{archive_of};
-ghost use Rattle.swh_answers.specs.declared.answer.Ending.TheVariants.{Wanting};
-ghost use Rattle.swh_answers.specs.declared.answer.Answer.TheVariants.{OutsideDisk};
+ghost use Rattle.swh_exit.specs.declared.answer.Ending.TheVariants.{Wanting};
+ghost use Rattle.swh_exit.specs.declared.answer.Answer.TheVariants.{OutsideDisk};
 
 use itoa::Buffer;
 use std::alloc::Global;
 use std::convert::AsStr;
-use swh_answers::{Answer, Ending, Text, TextBuilder};
 use swh_api::reply_to_get;
 use swh_base::{Memory, Reply};
+use swh_exit::{Answer, Ending, Text, TextBuilder};
 use swh_replay::Replayed;
 
 /// What is printed of replies, and how the run ends.

@@ -1,18 +1,18 @@
 // The command `check`.
 ghost use Rattle.std.specs.Prelude.{◌≡◌, ◌≢◌, None, IfOk};
 ghost use Rattle.swh_model.specs.Step.{replay};
-ghost use Rattle.swh_answers.specs.Answers.{TellsLine};
+ghost use Rattle.swh_exit.specs.Answers.{TellsLine};
 ghost use Rattle.swh_program.specs.CheckCommand.{report_line, checking};
-ghost use Rattle.swh_answers.specs.Damage.{IsUndamaged};
+ghost use Rattle.swh_exit.specs.Damage.{IsUndamaged};
 ghost use Rattle.swh_program.specs.Reading.{IsOfArchive, LeavesKept};
-ghost use Rattle.swh_answers.specs.declared.answer.Ending.TheVariants as ending;
-ghost use Rattle.swh_answers.specs.declared.answer.Answer.TheVariants.{OutsideDisk};
+ghost use Rattle.swh_exit.specs.declared.answer.Ending.TheVariants as ending;
+ghost use Rattle.swh_exit.specs.declared.answer.Answer.TheVariants.{OutsideDisk};
 
 use itoa::Buffer;
 use std::alloc::Global;
-use swh_answers::{Answer, Ending, Text, tell_body};
 use swh_base::{Bytes, Memory, Namer};
 use swh_check::{CheckFault, Report, check_all};
+use swh_exit::{Answer, Ending, Text, tell_body};
 use swh_keeper::Keeper;
 use swh_outside::Disk;
 

@@ -3,7 +3,7 @@ ghost use Rattle.std.specs.Prelude.{◌≡◌, ◌≢◌, ◌≤◌, IfOk, map, 
 ghost use Rattle.swh_outside.specs.Faults.{Rose};
 ghost use Rattle.swh_dircook.specs.Made.{yarded};
 ghost use Rattle.swh_replay.specs.Replay.{archive_of};
-ghost use Rattle.swh_answers.specs.Answers.{TellsLine};
+ghost use Rattle.swh_exit.specs.Answers.{TellsLine};
 ghost use Rattle.swh_program.specs.CookCommand.{
   cook_line,
   not_held_line,
@@ -14,21 +14,21 @@ ghost use Rattle.swh_program.specs.CookCommand.{
   LeavesYard,
   Cooks,
 };
-ghost use Rattle.swh_answers.specs.Damage.{IsUndamaged};
-ghost use Rattle.swh_answers.specs.LeftAlone.{KeepsOthers};
+ghost use Rattle.swh_exit.specs.Damage.{IsUndamaged};
+ghost use Rattle.swh_exit.specs.LeftAlone.{KeepsOthers};
 ghost use Rattle.swh_program.specs.Reading.{IsOfArchive};
 ghost use Rattle.swh_program.specs.Yards.{yards};
-ghost use Rattle.swh_answers.specs.declared.answer.Ending.TheVariants as ending;
-ghost use Rattle.swh_answers.specs.declared.answer.Answer.TheVariants.{OutsideDisk};
+ghost use Rattle.swh_exit.specs.declared.answer.Ending.TheVariants as ending;
+ghost use Rattle.swh_exit.specs.declared.answer.Answer.TheVariants.{OutsideDisk};
 
 use crate::outside::{Outside, Shown};
 use crate::reading::{Reading, read_archive};
 use itoa::Buffer;
 use std::alloc::Global;
-use swh_answers::{Answer, Ending, Text};
 use swh_base::{Bytes, Memory, Name, Namer};
 use swh_carried::{CookFault, Why, why_word};
 use swh_cook::cook_name;
+use swh_exit::{Answer, Ending, Text};
 use swh_model::Look;
 use swh_outside::{Clock, Depot, Doors, Gate, Origins, Sink, Yard};
 use swh_replay::Replayed;

@@ -3,12 +3,12 @@ ghost use Rattle.std.specs.Prelude.{◌≡◌, ◌≤◌, ℕ, List};
 ghost use Rattle.swh_base.specs.declared.kind.Kind.{Kind};
 ghost use Rattle.swh_outside.specs.Faults.{Rose};
 ghost use Rattle.swh_segment.specs.Making.{IsMade};
-ghost use Rattle.swh_answers.specs.Archives.{archive_at, SameElsewhere};
+ghost use Rattle.swh_exit.specs.Archives.{archive_at, SameElsewhere};
 ghost use Rattle.swh_program.specs.InitCommand.{InitEnds, IsInitAnswer};
-ghost use Rattle.swh_answers.specs.Own.{KeepsOwn};
-ghost use Rattle.swh_answers.specs.declared.answer.Answer.TheVariants.{OutsideDisk};
+ghost use Rattle.swh_exit.specs.Own.{KeepsOwn};
+ghost use Rattle.swh_exit.specs.declared.answer.Answer.TheVariants.{OutsideDisk};
 
-use swh_answers::{Answer, close_files, open_files, see_images};
+use swh_exit::{Answer, close_files, open_files, see_images};
 use swh_outside::{Depot, OutFault};
 use swh_segment::{MakeFault, make};
 

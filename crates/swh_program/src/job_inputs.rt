@@ -9,11 +9,11 @@ ghost use Rattle.swh_program.specs.Dated.{AreSaid, standing, between, IsKept, Is
 ghost use Rattle.swh_program.specs.Dated.{IsOpenedJob, AreOpenedJobs, IsSourceBack, IsFolderBack, IsListingBack};
 ghost use Rattle.swh_program.specs.Dated.{IsGivenBack, AreGivenBack};
 ghost use Rattle.swh_program.specs.Loading.{IsUnstarted};
-ghost use Rattle.swh_answers.specs.declared.answer.Answer.TheVariants.{OutsideClock, Memory as OutOfMemory};
+ghost use Rattle.swh_exit.specs.declared.answer.Answer.TheVariants.{OutsideClock, Memory as OutOfMemory};
 
 use std::alloc::Global;
 use std::collections::VecDeque;
-use swh_answers::Answer;
+use swh_exit::Answer;
 use swh_inputs::Input;
 use swh_jobs::{JobInput, JobLine};
 use swh_loader::Job;

@@ -13,12 +13,12 @@ ghost use Rattle.swh_program.specs.Jobs.{
   IsJobRefusal,
   IsJobRefused,
 };
-ghost use Rattle.swh_answers.specs.declared.answer.Answer.TheVariants.{OutsideSource};
+ghost use Rattle.swh_exit.specs.declared.answer.Answer.TheVariants.{OutsideSource};
 
 use itoa::Buffer;
 use std::alloc::Global;
-use swh_answers::Answer;
 use swh_base::{Bytes, Memory};
+use swh_exit::Answer;
 use swh_fastlex::{SourceFault, WINDOW, read_front};
 use swh_jobs::{JobLine, JobWhy, JobsFault, LONGEST, parse_jobs};
 use swh_outside::{Opened, Origins, Source};

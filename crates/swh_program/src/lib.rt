@@ -1,9 +1,9 @@
 //! The program: reads its words, does what they say with the parts of the outside, and prints what came of it.
-//! Stands on `swh_answers` for what a run comes to and for the archive in a folder, on `swh_outside`, on `swh_words`,
-//! `swh_jobs`, `swh_keeper`, `swh_check`, `swh_loader`, `swh_pool`, `swh_api`, `swh_cook`, `swh_identify` and `swh_swhid` for
-//! what its commands do, and on crates below these whose types and definitions its clauses cite; crates.txt lists all.
-//! `swharc` may rely on: the clauses of `run`, which are the archive theorem for the commands that stand; what each
-//! command does is a record of its own (`Does` in specs/Commands.antt names them).
+//! Stands on `swh_exit` for what a run comes to and for the archive in a folder, on `swh_outside`, on `swh_words`,
+//! `swh_jobs`, `swh_keeper`, `swh_check`, `swh_loader`, `swh_pool`, `swh_api`, `swh_cook`, `swh_identify` and
+//! `swh_swhid` for what its commands do, and on crates below these whose types and definitions its clauses cite;
+//! crates.txt lists all. `swharc` may rely on: the clauses of `run`, which are the archive theorem for the commands
+//! that stand; what each command does is a record of its own (`Does` in specs/Commands.antt names them).
 #![tactic(auto)]
 
 mod ask_command;

@@ -1,5 +1,5 @@
 //! All parts of the outside that a run may use, and what contracts see of them.
-ghost use Rattle.swh_answers.specs.Seen.{Span};
+ghost use Rattle.swh_exit.specs.Seen.{Span};
 
 use swh_base::Namer;
 use swh_outside::{Clock, Depot, Doors, Gate, Origins, Sink, Yard};
@@ -28,7 +28,7 @@ pub trait Shown {
 impl<N: Namer, P: Depot, O: Origins, Y: Yard, K: Sink, C: Clock, D: Doors, G: Gate> Shown
     for Outside<N, P, O, Y, K, C, D, G> {
     ghost use Rattle.std.specs.Prelude.{◌≡◌};
-    ghost use Rattle.swh_answers.specs.Seen.{Seen, Span};
+    ghost use Rattle.swh_exit.specs.Seen.{Seen, Span};
 
     ghost span = { λ old new.
         let seen : _ → Seen = λ w. record {

@@ -3,7 +3,7 @@ ghost use Rattle.std.specs.Prelude.{ℕ, List};
 ghost use Rattle.swh_base.specs.declared.kind.Kind.{Kind};
 ghost use Rattle.swh_outside.specs.Files.{Files, Images, AreImages};
 ghost use Rattle.swh_keeper.specs.Own.{AreUsable, AreOwn};
-ghost use Rattle.swh_answers.specs.Own.{AreAfterCrash};
+ghost use Rattle.swh_exit.specs.Own.{AreAfterCrash};
 
 /// A crash leaves own files of own files.
 pub fn own_files_outlast_crashes()

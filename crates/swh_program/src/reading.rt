@@ -3,20 +3,20 @@ ghost use Rattle.std.specs.Prelude.{◌≡◌, ◌≤◌, None};
 ghost use Rattle.swh_outside.specs.Faults.{Rose};
 ghost use Rattle.swh_dircook.specs.Made.{yarded};
 ghost use Rattle.swh_model.specs.Step.{replay};
-ghost use Rattle.swh_answers.specs.Archives.{archive_at, SameElsewhere};
+ghost use Rattle.swh_exit.specs.Archives.{archive_at, SameElsewhere};
 ghost use Rattle.swh_program.specs.Commands.{telling, LooksLeave, ReadsLeave};
-ghost use Rattle.swh_answers.specs.Damage.{IsUndamaged};
-ghost use Rattle.swh_answers.specs.Own.{KeepsOwn};
+ghost use Rattle.swh_exit.specs.Damage.{IsUndamaged};
+ghost use Rattle.swh_exit.specs.Own.{KeepsOwn};
 ghost use Rattle.swh_program.specs.Reading.{IsOfArchive, LeavesKept, IsReadAnswer, OfHistory, OfArchive, ReadEnds};
 ghost use Rattle.swh_program.specs.Yards.{yards};
-ghost use Rattle.swh_answers.specs.declared.answer.Answer.TheVariants.{OutsideDisk};
+ghost use Rattle.swh_exit.specs.declared.answer.Answer.TheVariants.{OutsideDisk};
 
 use crate::ask_command::tell_replies;
 use crate::check_command::tell_check;
 use crate::cook_command::tell_cook;
 use std::alloc::Global;
-use swh_answers::{Answer, close_archive, open_archive};
 use swh_base::{Name, Namer};
+use swh_exit::{Answer, close_archive, open_archive};
 use swh_keeper::Keeper;
 use swh_outside::{Depot, Disk, Yard};
 

@@ -1,11 +1,11 @@
 // What is told of loads.
 ghost use Rattle.std.specs.Prelude.{◌≡◌, IfOk, OnErr};
 ghost use Rattle.swh_program.specs.Lines.{ending_of_end, ending_of_why, ending_for, ending_of_all, worse};
-ghost use Rattle.swh_answers.specs.declared.answer.Answer.TheVariants.{Told, Memory as OutOfMemory};
+ghost use Rattle.swh_exit.specs.declared.answer.Answer.TheVariants.{Told, Memory as OutOfMemory};
 
 use std::alloc::Global;
-use swh_answers::{Answer, Ending, Text};
 use swh_base::Memory;
+use swh_exit::{Answer, Ending, Text};
 use swh_loader::{End, LoadFault, Loaded, Stop};
 use swh_pool::Report;
 

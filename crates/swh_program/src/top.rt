@@ -2,15 +2,15 @@
 ghost use Rattle.std.specs.Prelude.{◌≡◌, ◌⊎◌, map, string_bytes};
 ghost use Rattle.swh_words.specs.Words.{Wanted, IsCommand, IsOffered, wanted_by};
 ghost use Rattle.swh_program.specs.Commands.{Does, Comes, NeedsNoYard};
-ghost use Rattle.swh_answers.specs.LeftAlone.{KeepsOthers, TouchesNothing};
-ghost use Rattle.swh_answers.specs.Run.{IsStatus};
+ghost use Rattle.swh_exit.specs.LeftAlone.{KeepsOthers, TouchesNothing};
+ghost use Rattle.swh_exit.specs.Run.{IsStatus};
 ghost use Rattle.swh_program.specs.Run.{IsNoCommand, NamesFailed, RefusesWords, TellsFailures};
-ghost use Rattle.swh_answers.specs.declared.answer.Answer.TheVariants.{Words, Memory};
+ghost use Rattle.swh_exit.specs.declared.answer.Answer.TheVariants.{Words, Memory};
 
 use crate::{Outside, Reading, Shown, init, read_archive};
 use std::alloc::Global;
-use swh_answers::{Answer, tell};
 use swh_base::Namer;
+use swh_exit::{Answer, tell};
 use swh_identify::{identify, identify_folder};
 use swh_outside::{Clock, Depot, Doors, Gate, Origins, Sink, Yard};
 use swh_words::{Command, WordsFault, parse_words};

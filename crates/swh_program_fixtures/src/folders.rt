@@ -2,7 +2,7 @@
 use crate::pieces::{Piece, spelled};
 use std::alloc::{AllocError, Global};
 use std::sync::ArcSlice;
-use swh_memory_input::{FolderInput, Place, Stands};
+use swh_memory_input::{FolderInput, PathItem, Stands};
 use swh_outside::{Item, What};
 
 /// What is laid at a path of a folder.
@@ -64,8 +64,8 @@ fn stands_of(alloc: Global, laid: Laid<'_>) -> Result<Stands, AllocError> {
     }
 }
 
-fn place_of(alloc: Global, path: &str, laid: Laid<'_>) -> Result<Place, AllocError> {
-    Ok(Place {
+fn place_of(alloc: Global, path: &str, laid: Laid<'_>) -> Result<PathItem, AllocError> {
+    Ok(PathItem {
         path: String::from_str(alloc, path)?,
         stands: stands_of(alloc, laid)?,
     })

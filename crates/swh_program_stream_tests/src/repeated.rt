@@ -5,9 +5,9 @@ ghost use Rattle.swh_outside.specs.Opened.{IfFound, IsFailed};
 
 use std::alloc::{AllocError, Global};
 use swh_folder_names::are_names;
+use swh_memory_repeated::{RepeatedFile, RepeatedSource};
 use swh_outside::{Folder, Item, Opened, Origins, OutFault, What};
 use swh_program_fixtures::{Piece, spelled};
-use swh_repeated_input::{RepeatedFile, RepeatedSource};
 
 /// A file at a path: a text, how many times it comes, and what comes behind it.
 #[derive(Clone, Copy)]

@@ -6,7 +6,7 @@ use std::alloc::{AllocError, Global};
 use std::fs::File;
 use std::marker::Model;
 use std::rt::Files;
-use swh_files::{Access, Count, Place};
+use swh_files::{Access, Count, NumberedFile};
 use swh_outside::{Depot, OutFault};
 
 /// Archives' folders in the file system. A file that is absent is made at its first write, and its folder with it. A link
@@ -91,7 +91,7 @@ impl<R: Files<File = File> + Clone + Drop + Send> Depot for RealDepot<R> {
         if dir.is_empty() {
             return Err(OutFault::from(self.count.refuse()));
         }
-        let place = Place::new(self.alloc, dir, file);
+        let place = NumberedFile::new(self.alloc, dir, file);
         let rt: Result<R, AllocError> = self.rt.clone();
         let (Ok(place), Ok(rt)) = (place, rt) else {
             return Err(OutFault::Memory);

@@ -8,7 +8,7 @@ use std::marker::Model;
 use std::os::unix::fs::FileExt;
 use std::rt::Files;
 use swh_files::{
-    Access, Count, Names, Place, barrier_of, check_size_limit, forget_cached, read_from,
+    Access, Count, Names, NumberedFile, barrier_of, check_size_limit, forget_cached, read_from,
 };
 use swh_outside::{Disk, Failed};
 
@@ -17,7 +17,7 @@ use swh_outside::{Disk, Failed};
 #[derive(Drop)]
 pub struct RealDisk<R: Files<File = File> + Drop> {
     rt: R,
-    place: Place,
+    place: NumberedFile,
     access: Access,
     file: Option<File>,
     names: Names,
@@ -34,7 +34,7 @@ impl<R: Files<File = File> + Drop> Model for RealDisk<R> {
 
 impl<R: Files<File = File> + Drop> RealDisk<R> {
     /// A disk over the file of a place, as it was opened, or over none where it does not stand.
-    pub(crate) fn new(rt: R, place: Place, access: Access, file: Option<File>) -> Self
+    pub(crate) fn new(rt: R, place: NumberedFile, access: Access, file: Option<File>) -> Self
         ensures { result ≡ 0 }
     {
         let names = place.names(&rt, access);

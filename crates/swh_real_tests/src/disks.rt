@@ -4,7 +4,7 @@ use std::test::Fail;
 use std::{fs, mem};
 use swh_outside::{Depot, Disk};
 use swh_real::{RealDepot, RealDisk};
-use swh_rooms::{Laid, Thing, clear, fresh_room, is_file_in, path_in};
+use swh_temp_folders::{Laid, Thing, clear, fresh_room, is_file_in, path_in};
 
 type HostDepot = RealDepot<HostRuntime>;
 

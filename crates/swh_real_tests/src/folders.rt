@@ -3,7 +3,7 @@ use std::alloc::{AllocError, Global};
 use std::test::Fail;
 use swh_outside::{Folder, Item, Source, What};
 use swh_real::{RealFolder, RealSource};
-use swh_rooms::{Laid, Thing, clear, fresh_room, temporary_path};
+use swh_temp_folders::{Laid, Thing, clear, fresh_room, temporary_path};
 
 type HostFolder = RealFolder<HostRuntime>;
 

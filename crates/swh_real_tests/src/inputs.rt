@@ -5,7 +5,7 @@ use std::io;
 use std::test::Fail;
 use swh_outside::{Opened, Origins, Source};
 use swh_real::{RealOrigins, RealSource};
-use swh_rooms::{Laid, Thing, clear, fresh_room, path_in};
+use swh_temp_folders::{Laid, Thing, clear, fresh_room, path_in};
 
 type HostOrigins = RealOrigins<HostRuntime>;
 

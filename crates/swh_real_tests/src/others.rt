@@ -6,7 +6,7 @@ use std::time::{Duration, SystemTime, UNIX_EPOCH};
 use std::{io, rt};
 use swh_outside::{Clock, Doors, Failed, OutFault, Sink, Source};
 use swh_real::{RealClock, RealDoors, RealLink, RealSink};
-use swh_rooms::{clear, fresh_room, is_file, path_in};
+use swh_temp_folders::{clear, fresh_room, is_file, path_in};
 
 // Whole seconds since 1970, as the library says them; none where it says none.
 fn seconds(rt: &HostRuntime) -> Option<u64> {

@@ -3,7 +3,7 @@ use std::os::unix::fs::symlink;
 use std::test::Fail;
 use swh_outside::{Failed, Sink, Yard};
 use swh_real::RealYard;
-use swh_rooms::{Laid, Thing, clear, fresh_room, is_file_in, path_in, stands};
+use swh_temp_folders::{Laid, Thing, clear, fresh_room, is_file_in, path_in, stands};
 
 type HostYard = RealYard<HostRuntime>;
 

@@ -13,7 +13,7 @@ use Rattle.swh_base.specs.Release.{Release, release_text, IsRelease}
 use Rattle.swh_base.specs.Manifest.{IsWellFormed}
 use Rattle.swh_base.proofs.HexLines.{one_line}
 use Rattle.swh_base.proofs.RevisionLemmas.{one_revision, one_release}
-use Rattle.swh_pieces.proofs.Middle.{in_middle}
+use Rattle.swh_base.proofs.Middle.{in_middle}
 use Rattle.swh_revfmt.specs.declared.revision.Rev.{Rev}
 use Rattle.swh_revfmt.specs.declared.release.Rel.{Rel}
 use Rattle.swh_revfmt.specs.declared.fault.ReadRevFault.{ReadRevFault}

@@ -4,7 +4,7 @@ use Rattle.swh_base.specs.Limits.{line_limit}
 use Rattle.swh_base.specs.Text.{IsPerson}
 use Rattle.swh_base.proofs.Splits.{first_split, sized_split}
 use Rattle.swh_revfmt.specs.Plain.{text_line, optional_line, IsPersonLine, IsEncoding, RevisionRest, IsRevisionRest}
-use Rattle.swh_pieces.proofs.Middle.{in_middle}
+use Rattle.swh_base.proofs.Middle.{in_middle}
 use Rattle.swh_base.proofs.Lacks.{person-no_feed}
 
 -- a line and what follows

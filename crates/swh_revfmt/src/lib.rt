@@ -1,5 +1,6 @@
-//! Revision and release manifests (git objects, commit and tag): read into their parts, and written again, byte for byte.
-//! Stands on `swh_base`, whose grammars of revisions and releases it reads and writes, on `swh_pieces` and on `hex`.
+//! Revision and release manifests (git objects, commit and tag): read into their parts, and written again, byte for
+//! byte.
+//! Stands on `swh_base`, whose grammars of revisions and releases it reads and writes, on `swh_base` and on `hex`.
 //! Callers may rely on: exactly the grammars are read, and a refusal tells how far the bytes go that some body
 //! continues.
 #![tactic(auto)]

@@ -5,8 +5,7 @@ ghost use Rattle.swh_base.specs.Name.{IsId};
 ghost use Rattle.swh_base.specs.Revision.{id_line};
 ghost use Rattle.swh_revfmt.specs.Reading.{NotLine};
 
-use swh_base::{Kind, Name};
-use swh_pieces::behind;
+use swh_base::{Kind, Name, behind};
 
 /// The id of a line, and the bytes after the line.
 #[derive(Drop)]

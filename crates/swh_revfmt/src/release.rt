@@ -21,8 +21,7 @@ use crate::line;
 use crate::place::{common_front, line_place};
 use crate::revision::put_id_line;
 use std::alloc::Global;
-use swh_base::{Bytes, Kind, Memory, Name};
-use swh_pieces::split_at_byte;
+use swh_base::{Bytes, Kind, Memory, Name, split_at_byte};
 
 /// The parts of a release (git objects, tag): its object, which is no snapshot, the tag's name without LF, and every
 /// byte after the line of the tag's name.

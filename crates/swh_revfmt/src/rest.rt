@@ -14,8 +14,7 @@ ghost use Rattle.swh_revfmt.specs.Plain.{
 };
 ghost use Rattle.swh_revfmt.specs.PlainReading.{rev_rest, rel_rest};
 
-use swh_base::{LINE_LIMIT, is_person};
-use swh_pieces::{behind, split_at_byte};
+use swh_base::{LINE_LIMIT, behind, is_person, split_at_byte};
 
 /// The text of a line after its word, and the bytes after the line.
 #[derive(Drop)]

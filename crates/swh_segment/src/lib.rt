@@ -2,8 +2,8 @@
 //! by owners of their disks, and the reading of a whole file.
 //! Stands on `swh_base`, `swh_outside`, `swh_model` and `swh_format`.
 //! Callers may rely on: each call on the disks is one of a stated plan, cut where a disk fails, and a crash at any call
-//! of it leaves files that stand for the history with the event or without; at any call of several events, for the history
-//! and a front of them, which has each that was acknowledged, and at most one more.
+//! of it leaves files that stand for the history with the event or without; at any call of several events, for the
+//! history and a front of them, which has each that was acknowledged, and at most one more.
 #![tactic(auto)]
 
 mod beginning;

@@ -6,7 +6,7 @@ use Rattle.std.proofs.lemmas.List.Concat.{flat_map-append}
 use Rattle.swh_base.specs.Snapshot.{SnapshotBranch, IsBranch, BranchIsBefore, AreBranches, branch_text, snapshot_text}
 use Rattle.swh_base.proofs.DirectoryLemmas.{all-at, all-push}
 use Rattle.swh_base.proofs.SnapshotLemmas.{one_branch}
-use Rattle.swh_pieces.proofs.Lasts.{map_end, ends_with_last, after_through}
+use Rattle.swh_base.proofs.Lasts.{map_end, ends_with_last, after_through}
 use Rattle.swh_snpfmt.specs.declared.branch.SpelledBranch.{SpelledBranch}
 use Rattle.swh_snpfmt.specs.Branches.{branch_of, branches_in_body}
 use Rattle.swh_snpfmt.specs.Fault.{MayFollowBranches, BeginsNextBranch}

@@ -4,7 +4,7 @@ use Rattle.std.proofs.lemmas.Fmt.{decimal_injective}
 use Rattle.swh_base.specs.Snapshot.{BranchTarget, SnapshotBranch, IsBranch, IsTarget, target_word, target_bytes, branch_text}
 use Rattle.swh_base.proofs.Splits.{first_split, sized_split}
 use Rattle.swh_base.proofs.SnapshotLemmas.{word-no_space, target-short, decimal-no_colon, branch_then}
-use Rattle.swh_pieces.proofs.Middle.{in_middle}
+use Rattle.swh_base.proofs.Middle.{in_middle}
 use Rattle.swh_snpfmt.specs.Fault.{BeginsBranch}
 use Rattle.swh_snpfmt.specs.Reading.{sized_text}
 use Rattle.swh_snpfmt.proofs.Targets.{NoTarget}

@@ -9,7 +9,7 @@ ghost use Rattle.swh_snpfmt.specs.Reading.{sized_text};
 use crate::branch::SpelledBranch;
 use crate::number::number_of;
 use crate::target::target_from;
-use swh_pieces::split_at_byte;
+use swh_base::split_at_byte;
 
 /// The bytes after a length and a colon, as many as the length says, and what follows them.
 fn sized(bytes: &[u8]) -> Option<(&[u8], &[u8])>

@@ -1,5 +1,6 @@
-//! Snapshot manifests (SWHID v1.2, core identifiers, snapshots): a body read into its branches, and written again, byte for byte.
-//! Stands on `swh_base`, whose grammar of snapshots it reads and writes, on `swh_pieces` and on `itoa`.
+//! Snapshot manifests (SWHID v1.2, core identifiers, snapshots): a body read into its branches, and written again, byte
+//! for byte.
+//! Stands on `swh_base`, whose grammar of snapshots it reads and writes, on `swh_base` and on `itoa`.
 //! Callers may rely on: exactly the grammar is read, a refusal names the first branch that breaks, and each list of
 //! branches has one spelling.
 #![tactic(auto)]

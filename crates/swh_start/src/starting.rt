@@ -1,13 +1,13 @@
 // The start of the program.
 ghost use Rattle.std.specs.Prelude.{◌≡◌, ◌⊎◌, map, string_bytes};
-ghost use Rattle.swh_answers.specs.Run.{ComesTo, IsStatus};
+ghost use Rattle.swh_exit.specs.Run.{ComesTo, IsStatus};
 ghost use Rattle.swh_program.specs.Run.{IsNoCommand};
 
 use crate::End;
 use crate::parts::parts_for;
 use std::alloc::Global;
-use swh_answers::{Answer, tell};
 use swh_base::Sha1Namer;
+use swh_exit::{Answer, tell};
 use swh_outside::Sink;
 use swh_program::{Outside, run};
 use swh_real::{RealDoors, RealGate};

@@ -3,7 +3,7 @@ use crate::starts::{Run, all_end_so};
 use std::fs;
 use std::test::Fail;
 use swh_fixtures::STREAM;
-use swh_rooms::{Laid, Thing, clear, fresh_room, is_file_in, path_in, stands};
+use swh_temp_folders::{Laid, Thing, clear, fresh_room, is_file_in, path_in, stands};
 
 // The worked stream, and a folder of a program and a link, as its listing says.
 const LAID: [Laid; 5] = [

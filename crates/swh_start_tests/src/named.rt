@@ -1,7 +1,7 @@
 // Folders that are named.
 use crate::starts::{Run, all_end_so};
 use std::test::Fail;
-use swh_rooms::{Laid, Thing, clear, fresh_room};
+use swh_temp_folders::{Laid, Thing, clear, fresh_room};
 
 // A folder of one file, which a link leads to; an empty folder; and a folder with a link in it.
 const LAID: [Laid; 7] = [

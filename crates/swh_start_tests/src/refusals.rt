@@ -3,8 +3,8 @@ use crate::starts::{Run, all_end_so, run};
 use std::fs::File;
 use std::test::Fail;
 use swh_real::RealSink;
-use swh_rooms::{Laid, Thing, clear, fresh_room, is_file, path_in};
 use swh_start::{end_without_memory, start};
+use swh_temp_folders::{Laid, Thing, clear, fresh_room, is_file, path_in};
 
 // A job file that is none, a link that leads to itself, and a folder whose ledger is a link to that of the archive `A`.
 const LAID: [Laid; 4] = [

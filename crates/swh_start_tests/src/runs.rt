@@ -5,7 +5,7 @@ use std::test::Fail;
 use swh_fixtures::STREAM;
 use swh_outside::Depot;
 use swh_real::RealDepot;
-use swh_rooms::{Thing, clear, fresh_room, path_in};
+use swh_temp_folders::{Thing, clear, fresh_room, path_in};
 
 const VISITS: &str = "/api/1/origin/https://e.org/p/visits/";
 

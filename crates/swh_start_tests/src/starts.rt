@@ -3,8 +3,8 @@ use std::alloc::{AllocError, Global};
 use std::fs::File;
 use std::test::Fail;
 use swh_real::RealSink;
-use swh_rooms::{is_file_in, path_in};
 use swh_start::start;
+use swh_temp_folders::{is_file_in, path_in};
 
 /// The words of a run, in which a first `@` stands for the room; the status that it gives, and what it prints.
 pub type Run = (&'static [&'static str], u8, &'static [u8]);

@@ -1,11 +1,12 @@
 -- What is new of a batch, as far as a loop has come, and which names would have two bodies.
-use Rattle.std.proofs.Common.{◌≡◌, inl, inr, ℕ, ◌+◌, ◌<◌, ◌≤◌, drop, true, false, cond, Option, Some, None, List, [], ◌∷◌, ◌++◌, append_assoc, length, take, get_or, refl, sym, ap, ◌∙◌, subst, arith}
+use Rattle.std.proofs.Common.{◌≡◌, inl, inr, ℕ, ◌+◌, ◌<◌, ◌≤◌, drop, true, false, cond, Some, List, [], ◌∷◌, ◌++◌, append_assoc, length, take, get_or, refl, sym, ap, ◌∙◌, subst, arith}
 use Rattle.std.specs.Prelude.{Contains, is_some}
 use Rattle.std.specs.FinMap as finite
 use Rattle.std.proofs.lemmas.List.{take_all, take-append-drop}
 use Rattle.std.proofs.lemmas.List.Elements.{Contains-append_left, Contains-push_cases}
 use Rattle.swh_base.specs.declared.name.Name.{Name}
 use Rattle.swh_base.specs.declared.entry.Entry.{Entry}
+use Rattle.swh_base.proofs.Elementary.{some_not_none}
 use Rattle.swh_model.specs.Archive.{Bodies, body_of}
 use Rattle.swh_model.specs.Step.{added}
 use Rattle.swh_model.specs.Judge.{not_held, Collides}
@@ -50,9 +51,6 @@ pub record Added (old now es : List Entry) (i : ℕ) : Type 0 where
 
 bodies-now : (old now es : List Entry) (i : ℕ) → Added old now es i → bodies_in now ≡ added (bodies_in old) (not_held (bodies_in old) (take i es))
 bodies-now old now es i a = ap bodies_in a.items ∙ added-append finite.empty old (not_held (bodies_in old) (take i es))
-
-some_not_none : (x : List ℕ) (o : Option (List ℕ)) → o ≡ Some x → o ≡ None → ⊥
-some_not_none x o s n = cc
 
 -- one entry more was taken up
 pub added-next : (old now later es : List Entry) (i : ℕ) (e : Entry) → i < length es → e ≡ get_or es i e → Added old now es i → IsTakenUp now later e → Added old later es (i + 1)

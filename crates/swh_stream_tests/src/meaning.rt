@@ -2,8 +2,8 @@
 use std::alloc::{AllocError, Global};
 use std::test::Fail;
 use swh_base::{Kind, Name, Sha1Namer};
+use swh_dedup::{Novelty, Seen};
 use swh_fastmeaning::{MarksAndTips, Target, blob_of, commit_of};
-use swh_made::{Novelty, Seen};
 use swh_object::Object;
 use swh_trees::Tree;
 

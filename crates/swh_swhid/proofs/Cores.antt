@@ -10,8 +10,8 @@ use Rattle.swh_base.specs.declared.kind.Kind.{Kind}
 use Rattle.swh_base.specs.declared.kind.Kind.TheVariants.{Snapshot}
 use Rattle.swh_base.specs.declared.name.Name.{Name}
 use Rattle.swh_base.proofs.HexLines.{hex-injective}
-use Rattle.swh_swhid.specs.declared.identifier.Place.{Place}
-use Rattle.swh_swhid.specs.declared.identifier.Place.TheVariants.{Text}
+use Rattle.swh_swhid.specs.declared.identifier.Role.{Role}
+use Rattle.swh_swhid.specs.declared.identifier.Role.TheVariants.{Text}
 use Rattle.swh_swhid.specs.Front.{BreaksAt, Chosen, common}
 use Rattle.swh_swhid.specs.Core.{accepts, kind_word, lead, along, core_text, IsCore, HasCore, KindAndId}
 use Rattle.swh_swhid.proofs.Fronts.{common-le, take-common, breaks_after, breaks_same, chosen_breaks}
@@ -20,7 +20,7 @@ use Rattle.swh_swhid.proofs.Ids.{zeros-id}
 use Rattle.swh_swhid.proofs.KindWords.{one_kind, length-kind_word, accepted_along, accepts-Snapshot}
 
 -- a core identifier after its lead, both ways
-core_in : (place : Place) (y : List ℕ) → KindAndId place y → HasCore place (lead ++ y)
+core_in : (place : Role) (y : List ℕ) → KindAndId place y → HasCore place (lead ++ y)
 core_in place y h =
     let id = spelled_id h.rest h.follows in
     record {
@@ -28,7 +28,7 @@ core_in place y h =
       core = record { accepted = h.may_stand; named = IsId-from_text h.rest id.id h.follows id.same; spelled = ap (λ (t : List ℕ). lead ++ t) (h.spelled ∙ ap (λ (t : List ℕ). kind_word h.key ++ t) id.same) };
     }
 
-core_out : (place : Place) (y : List ℕ) → HasCore place (lead ++ y) → KindAndId place y
+core_out : (place : Role) (y : List ℕ) → HasCore place (lead ++ y) → KindAndId place y
 core_out place y h = record {
   key = h.name.kind;
   may_stand = h.core.accepted;
@@ -37,11 +37,11 @@ core_out place y h = record {
   follows = IsIdText-encode h.name.id h.core.named;
 }
 
-abbrev Led : Place → List ℕ → Type 0
+abbrev Led : Role → List ℕ → Type 0
 Led place = Chosen (Unit {0}) (λ _. lead) (λ _. true) (λ _. KindAndId place)
 
 -- a text without the lead
-pub lead_breaks : (place : Place) (text : List ℕ) (n : ℕ) → n ≡ common lead text → n < 6 → BreaksAt (HasCore place) text n
+pub lead_breaks : (place : Role) (text : List ℕ) (n : ℕ) → n ≡ common lead text → n < 6 → BreaksAt (HasCore place) text n
 lead_breaks place text n e short =
     let zeros : KindAndId place (kind_word Snapshot ++ replicate 40 48) = record { key = Snapshot; may_stand = accepts-Snapshot place; rest = replicate 40 48; spelled = refl; follows = zeros-id } in
     breaks_same (HasCore place) (Led place) text n
@@ -54,10 +54,10 @@ pub word_first : (w t : List ℕ) → length w ≤ common w t → t ≡ w ++ dro
 word_first w t h =
     sym (take-append-drop (length w) t) ∙ ap (λ (f : List ℕ). f ++ drop (length w) t) (sym (take-common w t (length w) h) ∙ take-length w)
 
-pub kind_behind : (place : Place) (text : List ℕ) (n : ℕ) → 6 ≤ common lead text → BreaksAt (KindAndId place) (drop 6 text) n → BreaksAt (HasCore place) text (6 + n)
+pub kind_behind : (place : Role) (text : List ℕ) (n : ℕ) → 6 ≤ common lead text → BreaksAt (KindAndId place) (drop 6 text) n → BreaksAt (HasCore place) text (6 + n)
 kind_behind place text n h b = subst (λ (t : List ℕ). BreaksAt (HasCore place) t (6 + n)) (sym (word_first lead text h)) (breaks_after (HasCore place) (KindAndId place) lead (drop 6 text) n (core_in place) (core_out place) b)
 
-id_behind : (place : Place) (kind : Kind) (text : List ℕ) (n : ℕ) → along place kind text ≡ 4 → BreaksAt IsIdText (drop 4 text) n → BreaksAt (KindAndId place) text (4 + n)
+id_behind : (place : Role) (kind : Kind) (text : List ℕ) (n : ℕ) → along place kind text ≡ 4 → BreaksAt IsIdText (drop 4 text) n → BreaksAt (KindAndId place) text (4 + n)
 id_behind place kind text n h b =
     let is = accepted_along place kind text h in
     let four = length-kind_word kind in
@@ -68,20 +68,20 @@ id_behind place kind text n h b =
     b in
     subst (λ (t : List ℕ). BreaksAt (KindAndId place) t (4 + n)) (sym cut) (subst (λ (k : ℕ). BreaksAt (KindAndId place) (kind_word kind ++ drop 4 text) (k + n)) four at)
 
-pub id_behind_lead : (place : Place) (kind : Kind) (text : List ℕ) (n : ℕ) → 6 ≤ common lead text → along place kind (drop 6 text) ≡ 4 → BreaksAt IsIdText (drop 10 text) n → BreaksAt (HasCore place) text (10 + n)
+pub id_behind_lead : (place : Role) (kind : Kind) (text : List ℕ) (n : ℕ) → 6 ≤ common lead text → along place kind (drop 6 text) ≡ 4 → BreaksAt IsIdText (drop 10 text) n → BreaksAt (HasCore place) text (10 + n)
 id_behind_lead place kind text n h a b =
     let same : drop 4 (drop 6 text) ≡ drop 10 text = drop-drop 4 6 text in
     subst (BreaksAt (HasCore place) text) (omega arith) (kind_behind place text (4 + n) h (id_behind place kind (drop 6 text) n a (subst (λ (t : List ℕ). BreaksAt IsIdText t n) (sym same) b)))
 
 -- a text that goes on with a kind's word after the lead has ten bytes
-pub kind_long : (place : Place) (kind : Kind) (text : List ℕ) → along place kind (drop 6 text) ≡ 4 → 10 ≤ length text
+pub kind_long : (place : Role) (kind : Kind) (text : List ℕ) → along place kind (drop 6 text) ≡ 4 → 10 ≤ length text
 kind_long place kind text h =
     let far = (accepted_along place kind (drop 6 text) h).1 in
     let bound = (common-le (kind_word kind) (drop 6 text)).1 in
     omega (arith, far, bound, length-drop 6 text)
 
 -- the name that was read
-pub core_read : (place : Place) (text : List ℕ) (kind : Kind) (name : Name) → 6 ≤ common lead text → along place kind (drop 6 text) ≡ 4 → name.kind ≡ kind → drop 10 text ≡ encode_lower name.id → IsIdText (drop 10 text) → IsCore place text name
+pub core_read : (place : Role) (text : List ℕ) (kind : Kind) (name : Name) → 6 ≤ common lead text → along place kind (drop 6 text) ≡ 4 → name.kind ≡ kind → drop 10 text ≡ encode_lower name.id → IsIdText (drop 10 text) → IsCore place text name
 core_read place text kind name h a k e id =
     let is = accepted_along place kind (drop 6 text) a in
     let four = length-kind_word kind in
@@ -109,5 +109,5 @@ only_name text (Ok found) ok err name h e = ap Some (core-injective found name o
 only_name text (Err n) ok err name h e = absurd (err.refused (record { name = name; core = record { accepted = refl; named = h; spelled = e } }))
 
 -- the core identifier of a snapshot whose id is all zeros stands anywhere
-pub any_core : (place : Place) → HasCore place (lead ++ (kind_word Snapshot ++ replicate 40 48))
+pub any_core : (place : Role) → HasCore place (lead ++ (kind_word Snapshot ++ replicate 40 48))
 any_core place = core_in place (kind_word Snapshot ++ replicate 40 48) (record { key = Snapshot; may_stand = accepts-Snapshot place; rest = replicate 40 48; spelled = refl; follows = zeros-id })

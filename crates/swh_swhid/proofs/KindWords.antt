@@ -5,8 +5,8 @@ use Rattle.swh_base.specs.Name.{IsIdText}
 use Rattle.swh_base.specs.declared.kind.Kind.{Kind}
 use Rattle.swh_base.specs.declared.kind.Kind.TheVariants.{Content, Directory, Revision, Release, Snapshot}
 use Rattle.swh_base.proofs.Splits.{sized_split}
-use Rattle.swh_swhid.specs.declared.identifier.Place.{Place}
-use Rattle.swh_swhid.specs.declared.identifier.Place.TheVariants.{Text, Visit, Anchor}
+use Rattle.swh_swhid.specs.declared.identifier.Role.{Role}
+use Rattle.swh_swhid.specs.declared.identifier.Role.TheVariants.{Text, Visit, Anchor}
 use Rattle.swh_swhid.specs.Front.{BreaksAt, common}
 use Rattle.swh_swhid.specs.Core.{accepts, kind_word, along, KindAndId}
 use Rattle.swh_swhid.proofs.Fronts.{common-le, chosen_breaks}
@@ -35,18 +35,18 @@ one_kind k j x y e =
     let both = sized_split (kind_word k) (kind_word j) x y (length-kind_word k ∙ sym (length-kind_word j)) e in
     (sym (kind_at-word k) ∙ ap kind_at both.0 ∙ kind_at-word j, both.1)
 
-pub accepts-Snapshot : (place : Place) → accepts place Snapshot ≡ true
+pub accepts-Snapshot : (place : Role) → accepts place Snapshot ≡ true
 accepts-Snapshot Text = refl
 accepts-Snapshot Visit = refl
 accepts-Snapshot Anchor = refl
 
 -- a kind that may stand here and goes along this far
-record Best (place : Place) (text : List ℕ) (n : ℕ) : Type 0 where
+record Best (place : Role) (text : List ℕ) (n : ℕ) : Type 0 where
   kind : Kind
   may : accepts place kind ≡ true
   far : n ≤ common (kind_word kind) text
 
-best_of : (place : Place) (kind : Kind) (text : List ℕ) → Best place text (along place kind text)
+best_of : (place : Role) (kind : Kind) (text : List ℕ) → Best place text (along place kind text)
 best_of place kind text =
     elim (accepts place kind) as (λ b. accepts place kind ≡ b → Best place text (if b then common (kind_word kind) text else 0)) [
       | true ↦ λ e. record { kind = kind; may = e; far = omega arith }
@@ -59,11 +59,11 @@ max_of P a b pa pb = elim (cases_lt a b) [
   | inr more ↦ let e : max a b ≡ a = omega arith in subst P (sym e) pa
 ]
 
-along-is : (place : Place) (kind : Kind) (text : List ℕ) → accepts place kind ≡ true → along place kind text ≡ common (kind_word kind) text
+along-is : (place : Role) (kind : Kind) (text : List ℕ) → accepts place kind ≡ true → along place kind text ≡ common (kind_word kind) text
 along-is place kind text e = rw e refl
 
 -- a kind whose whole word the text begins with may stand here
-pub accepted_along : (place : Place) (kind : Kind) (text : List ℕ) → along place kind text ≡ 4 → (accepts place kind ≡ true) × (4 ≤ common (kind_word kind) text)
+pub accepted_along : (place : Role) (kind : Kind) (text : List ℕ) → along place kind text ≡ 4 → (accepts place kind ≡ true) × (4 ≤ common (kind_word kind) text)
 accepted_along place kind text h =
     elim (accepts place kind) as (λ b. (if b then common (kind_word kind) text else 0) ≡ 4 → (b ≡ true) × (4 ≤ common (kind_word kind) text)) [
       | true ↦ λ e. (refl, omega (arith, e))
@@ -74,7 +74,7 @@ record Far (n a : ℕ) : Type 0 where
   le : a ≤ n
   not_all : a ≢ 4
 
-far_enough : (place : Place) (kind : Kind) (text : List ℕ) (n : ℕ) → Far n (along place kind text) → accepts place kind ≡ true → (common (kind_word kind) text ≤ n) × (common (kind_word kind) text < length (kind_word kind))
+far_enough : (place : Role) (kind : Kind) (text : List ℕ) (n : ℕ) → Far n (along place kind text) → accepts place kind ≡ true → (common (kind_word kind) text ≤ n) × (common (kind_word kind) text < length (kind_word kind))
 far_enough place kind text n far may =
     let le = far.le in
     let ne = far.not_all in
@@ -84,7 +84,7 @@ far_enough place kind text n far may =
     let other : common (kind_word kind) text ≢ 4 = λ e. ne (is ∙ e) in
     (omega (arith, le, is), omega (arith, bound, four, other))
 
-pub kind_breaks : (place : Place) (text : List ℕ) (c d v l s : ℕ) → c ≡ along place Content text → d ≡ along place Directory text → v ≡ along place Revision text → l ≡ along place Release text → s ≡ along place Snapshot text
+pub kind_breaks : (place : Role) (text : List ℕ) (c d v l s : ℕ) → c ≡ along place Content text → d ≡ along place Directory text → v ≡ along place Revision text → l ≡ along place Release text → s ≡ along place Snapshot text
     → c ≢ 4 → d ≢ 4 → v ≢ 4 → l ≢ 4 → s ≢ 4 → BreaksAt (KindAndId place) text (max (max (max (max c d) v) l) s)
 kind_breaks place text c d v l s ec ed ev el es nc nd nv nl ns =
     let n : ℕ = max (max (max (max c d) v) l) s in

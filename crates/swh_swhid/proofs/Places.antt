@@ -7,7 +7,7 @@ use Rattle.percent_encoding.specs.Percent.{percent_decode}
 use Rattle.swh_base.specs.Name.{IsName}
 use Rattle.swh_base.specs.declared.name.Name.{Name}
 use Rattle.swh_base.proofs.Splits.{sized_split}
-use Rattle.swh_swhid.specs.declared.identifier.Place.TheVariants.{Text}
+use Rattle.swh_swhid.specs.declared.identifier.Role.TheVariants.{Text}
 use Rattle.swh_swhid.specs.declared.swhid.Key.{Key}
 use Rattle.swh_swhid.specs.declared.swhid.Key.TheVariants.{Origin, Visit, Anchor, Path, Lines, Bytes}
 use Rattle.swh_swhid.specs.declared.swhid.Swhid.{Swhid}

@@ -4,7 +4,7 @@ use Rattle.std.specs.Prelude.{IfSome}
 use Rattle.std.proofs.lemmas.List.{append-nil}
 use Rattle.swh_base.specs.Name.{IsName}
 use Rattle.swh_base.specs.declared.name.Name.{Name}
-use Rattle.swh_swhid.specs.declared.identifier.Place.TheVariants.{Visit as AsVisit, Anchor as AsAnchor}
+use Rattle.swh_swhid.specs.declared.identifier.Role.TheVariants.{Visit as AsVisit, Anchor as AsAnchor}
 use Rattle.swh_swhid.specs.declared.swhid.Key.{Key}
 use Rattle.swh_swhid.specs.declared.swhid.Key.TheVariants.{Origin, Visit, Anchor, Path, Lines, Bytes}
 use Rattle.swh_swhid.specs.declared.swhid.Swhid.{Swhid}

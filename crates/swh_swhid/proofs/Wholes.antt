@@ -9,7 +9,7 @@ use Rattle.hex.specs.Hex.{encode_lower}
 use Rattle.swh_base.specs.Name.{is_lower_hex_digit}
 use Rattle.swh_base.specs.declared.kind.Kind.{Kind}
 use Rattle.swh_base.specs.declared.kind.Kind.TheVariants.{Content, Directory, Revision, Release, Snapshot}
-use Rattle.swh_swhid.specs.declared.identifier.Place.{Place}
+use Rattle.swh_swhid.specs.declared.identifier.Role.{Role}
 use Rattle.swh_swhid.specs.declared.swhid.Key.{Key}
 use Rattle.swh_swhid.specs.declared.swhid.Key.TheVariants.{Origin, Visit, Anchor, Path, Lines, Bytes}
 use Rattle.swh_swhid.specs.declared.swhid.Swhid.{Swhid}
@@ -73,7 +73,7 @@ whole-key Bytes = refl
 along : (t u : List ℕ) → t ≡ u → is_whole u ≡ true → is_whole t ≡ true
 along t u e h = ap is_whole e ∙ h
 
-pub whole-core : (place : Place) (t : List ℕ) → HasCore place t → is_whole t ≡ true
+pub whole-core : (place : Role) (t : List ℕ) → HasCore place t → is_whole t ≡ true
 whole-core place t h =
     let id = recursion_from_All (λ c. is_lower_hex_digit c ≡ true) (encode_lower h.name.id) (IsIdText-encode h.name.id h.core.named).1 in
     along t _ h.core.spelled (whole-append lead (kind_word h.name.kind ++ encode_lower h.name.id) refl (whole-append (kind_word h.name.kind) (encode_lower h.name.id) (whole-kind h.name.kind) (whole-lower (encode_lower h.name.id) id)))

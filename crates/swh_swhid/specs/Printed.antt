@@ -3,7 +3,7 @@ use Rattle.std.specs.Prelude.{◌≡◌, ◌≢◌, true, IfSome, ℕ, Option, S
 use Rattle.std.specs.List.{AllByRecursion}
 use Rattle.swh_base.specs.Escape.{escaped}
 use Rattle.swh_base.specs.Name.{IsName, IsByte}
-use Rattle.swh_swhid.specs.declared.identifier.Place.TheVariants.{Visit as AsVisit, Anchor as AsAnchor}
+use Rattle.swh_swhid.specs.declared.identifier.Role.TheVariants.{Visit as AsVisit, Anchor as AsAnchor}
 use Rattle.swh_swhid.specs.declared.swhid.Swhid.{Swhid}
 use Rattle.swh_swhid.specs.declared.swhid.Key.{Key}
 use Rattle.swh_swhid.specs.declared.swhid.Key.TheVariants.{Origin, Visit, Anchor, Path, Lines, Bytes}

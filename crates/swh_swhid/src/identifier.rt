@@ -19,14 +19,14 @@ ghost use Rattle.hex.specs.Hex.{encode_lower};
 ghost use Rattle.swh_base.specs.Name.{IsName, IsIdText};
 ghost use Rattle.swh_swhid.specs.Front.{BreaksAt, common};
 ghost use Rattle.swh_swhid.specs.Core.{accepts, kind_word, along, core_text, IsCore, HasCore, KindAndId};
-ghost use Rattle.swh_swhid.specs.declared.identifier.Place.TheVariants.{Text};
+ghost use Rattle.swh_swhid.specs.declared.identifier.Role.TheVariants.{Text};
 
 use crate::front::{behind, shared};
 use swh_base::{Kind, Name, is_lower_hex_digit};
 
 /// Where a core identifier stands, which settles the kinds that it may have.
 #[derive(Clone, Copy)]
-pub enum Place {
+pub enum Role {
     /// At the head of a text: any kind.
     Text,
     /// As a visit: a snapshot.
@@ -35,13 +35,13 @@ pub enum Place {
     Anchor,
 }
 
-fn accepts(place: Place, kind: Kind) -> bool
+fn accepts(place: Role, kind: Kind) -> bool
     ensures { result ≡ accepts place kind }
 {
     match place {
-        Place::Text => true,
-        Place::Visit => kind == Kind::Snapshot,
-        Place::Anchor => kind != Kind::Content,
+        Role::Text => true,
+        Role::Visit => kind == Kind::Snapshot,
+        Role::Anchor => kind != Kind::Content,
     }
 }
 
@@ -59,7 +59,7 @@ fn kind_word(kind: Kind) -> &'static [u8]
 }
 
 /// How far the text goes along with the kind's word, where the kind may stand here.
-fn along(place: Place, kind: Kind, text: &[u8]) -> usize
+fn along(place: Role, kind: Kind, text: &[u8]) -> usize
     ensures { result ≡ along place kind text.now }
 {
     if accepts(place, kind) {
@@ -70,7 +70,7 @@ fn along(place: Place, kind: Kind, text: &[u8]) -> usize
 }
 
 /// The kind whose word begins the text, or where all the words break off.
-fn kind_of(place: Place, text: &[u8]) -> Result<Kind, usize>
+fn kind_of(place: Role, text: &[u8]) -> Result<Kind, usize>
     ensures ok { IfOk result (λ kind. along place kind text.now ≡ 4) }
     ensures err { IfErr result (λ n. BreaksAt (KindAndId place) text.now n) }
 {
@@ -117,7 +117,7 @@ fn id_break(text: &[u8]) -> usize
 }
 
 /// The name whose core identifier the text is, or where it breaks off.
-pub fn read_core(place: Place, text: &[u8]) -> Result<Name, usize>
+pub fn read_core(place: Role, text: &[u8]) -> Result<Name, usize>
     ensures ok { IfOk result (λ name. IsCore place text.now name) }
     ensures err { IfErr result (λ n. BreaksAt (HasCore place) text.now n) }
 {
@@ -142,7 +142,7 @@ pub fn parse_core(text: &[u8]) -> Option<Name>
     ensures some { IfSome result (λ name. IsName name × (text.now ≡ core_text name)) }
     ensures only { (name : Name) → IsName name → text.now ≡ core_text name → result ≡ Some name }
 {
-    read_core(Place::Text, text).ok()
+    read_core(Role::Text, text).ok()
 }
 
 /// Writes the core identifier of the name: `swh:1:`, three letters for the kind, a colon and 40 lower-case digits

@@ -8,7 +8,7 @@ ghost use Rattle.swh_swhid.specs.Reading.{is_whole, IsPieceEnd, IsPlace, Explain
 
 use crate::fault::SwhidFault;
 use crate::front::{behind, front};
-use crate::identifier::{Place, read_core};
+use crate::identifier::{Role, read_core};
 use crate::qualifier::{add_qualifier, bad, is_free};
 use crate::swhid::{Key, Swhid};
 use std::alloc::Global;
@@ -92,7 +92,7 @@ fn read(alloc: Global, text: &[u8]) -> Result<Swhid, SwhidFault>
     ensures err { IfErr result (ExplainsSwhid HasSwhid text.now) }
 {
     let mut at = piece_end(text);
-    let mut swhid = match read_core(Place::Text, front(text, at)) {
+    let mut swhid = match read_core(Role::Text, front(text, at)) {
         Ok(core) => bare(core),
         Err(within) => return Err(bad(within)),
     };

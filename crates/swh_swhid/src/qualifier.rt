@@ -8,7 +8,7 @@ ghost use Rattle.swh_swhid.specs.Reading.{along_key, ExplainsSwhid};
 
 use crate::fault::SwhidFault;
 use crate::front::{behind, shared};
-use crate::identifier::{Place, read_core};
+use crate::identifier::{Role, read_core};
 use crate::number::read_range;
 use crate::swhid::{Key, Swhid};
 use crate::text::{decode, read_origin, read_path};
@@ -122,7 +122,7 @@ fn add_visit(swhid: &mut Swhid, text: &[u8]) -> Result<(), SwhidFault>
     ensures ok { OnOk result (Says Key.Visit text.now swhid.old swhid.new) }
     ensures err { IfErr result (ExplainsSwhid (IsValueText Key.Visit) text.now) }
 {
-    match read_core(Place::Visit, text) {
+    match read_core(Role::Visit, text) {
         Ok(name) => swhid.visit = Some(name),
         Err(at) => return Err(bad(at)),
     }
@@ -133,7 +133,7 @@ fn add_anchor(swhid: &mut Swhid, text: &[u8]) -> Result<(), SwhidFault>
     ensures ok { OnOk result (Says Key.Anchor text.now swhid.old swhid.new) }
     ensures err { IfErr result (ExplainsSwhid (IsValueText Key.Anchor) text.now) }
 {
-    match read_core(Place::Anchor, text) {
+    match read_core(Role::Anchor, text) {
         Ok(name) => swhid.anchor = Some(name),
         Err(at) => return Err(bad(at)),
     }

@@ -1,5 +1,5 @@
-//! Tests of trees of commits: the ids that git gives, several commits, want of memory aside, and all short lists of changes
-//! against a plain map from paths.
+//! Tests of trees of commits: the ids that git gives, several commits, want of memory aside, and all short lists of
+//! changes against a plain map from paths.
 //! Stands on `swh_base`, `swh_fastlex`, `swh_object` and `swh_trees`.
 //! Nothing stands above it.
 #![tactic(auto)]

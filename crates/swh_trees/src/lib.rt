@@ -4,8 +4,8 @@
 //! and `swh_object`.
 //! Callers may rely on: a change makes of a tree what it makes of a map from paths; the objects made are those of the
 //! map's directories, each after its own folders, and none that was made before is made again; of the folders without
-//! objects about as many stand, with about as many entries, as the tree that was changed last has; a name is kept once, and
-//! none that stood in no path.
+//! objects about as many stand, with about as many entries, as the tree that was changed last has; a name is kept once,
+//! and none that stood in no path.
 #![tactic(auto)]
 
 mod directory;

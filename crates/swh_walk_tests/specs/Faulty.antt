@@ -1,7 +1,7 @@
 -- Inputs of which no reading comes to the end.
 use Rattle.std.specs.Prelude.{Result, Ok, Err}
-use Rattle.swh_walk.specs.declared.parts.Next.{Next}
-use Rattle.swh_walk.specs.declared.parts.Next.TheVariants.{Part, Last, Bad}
+use Rattle.swh_ingest.specs.declared.parts.Next.{Next}
+use Rattle.swh_ingest.specs.declared.parts.Next.TheVariants.{Part, Last, Bad}
 
 -- These are not the last objects.
 abbrev pub NeverEnds : {N B E : Type 0} → Result (Next N B) E → Type 0

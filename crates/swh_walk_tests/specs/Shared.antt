@@ -1,13 +1,13 @@
--- That a keeper to which another loader adds is a place.
+-- That a keeper to which another loader adds is a destination.
 use Rattle.std.proofs.Common.{◌≡◌, ℕ, false, true, None, List, [], ◌∷◌, ◌++◌, refl, ap, ◌∙◌, subst, arith, append_assoc, length-append}
 use Rattle.swh_base.specs.declared.kind.Kind.{Kind}
 use Rattle.swh_model.specs.declared.event.Event.{Event}
 use Rattle.swh_model.specs.Archive.{Archive}
 use Rattle.swh_model.specs.Step.{MayAll, replay}
 use Rattle.swh_keeper.specs.Kept.{Kept}
-use Rattle.swh_place.specs.Knowing.{Follows, Runs, IsLawful}
-use Rattle.swh_place.proofs.Growing.{replay-append, follows_self, may-append}
-use Rattle.swh_walk_tests.specs.Sharing.{AddsAmong, shared_words}
+use Rattle.swh_ingest.specs.Knowing.{Follows, Runs, IsLawful}
+use Rattle.swh_ingest.proofs.Growing.{replay-append, follows_self, may-append}
+use Rattle.swh_walk_tests.specs.Sharing.{AddsAmong, shared_protocol}
 
 pub follows_then : (id : Kind → List ℕ → List ℕ) (f g h : List Event) → Follows id false f g → Follows id false g h → Follows id false f h
 follows_then id f g h a b = record {
@@ -36,7 +36,7 @@ module _ {D : Type 0} (id : Kind → List ℕ → List ℕ) where
     unwounded = k.unwounded;
   }
 
-  pub shared_lawful : {S : Type 0} (at : S → Kept D) → IsLawful id (shared_words id at)
+  pub shared_lawful : {S : Type 0} (at : S → Kept D) → IsLawful id (shared_protocol id at)
   shared_lawful at = record {
     none = λ s ready. shared_none (at s) ready;
     further = λ xs ys a b c h k. further xs ys (at a) (at b) (at c) h k;

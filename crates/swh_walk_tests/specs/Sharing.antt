@@ -3,7 +3,7 @@ use Rattle.std.specs.Prelude.{◌≡◌, ◌==◌, ℕ, ◌+◌, if◌then◌els
 use Rattle.swh_base.specs.declared.kind.Kind.{Kind}
 use Rattle.swh_model.specs.declared.event.Event.{Event}
 use Rattle.swh_keeper.specs.Kept.{Kept}
-use Rattle.swh_place.specs.Knowing.{Known, Words, Follows, Runs}
+use Rattle.swh_ingest.specs.Knowing.{Known, Protocol, Follows, Runs}
 
 -- the number of this loader
 abbrev pub this : ℕ
@@ -30,9 +30,9 @@ module _ {D : Type 0} (id : Kind → List ℕ → List ℕ) where
   abbrev pub known_to : Kept D → Known
   known_to k = record { number = this; front = k.history; made = made_in k.history }
 
-  -- what is said of seats in which a keeper stands so
-  abbrev pub shared_words : {S : Type 0} → (S → Kept D) → Words S
-  shared_words at = record {
+  -- what is said of writers in which a keeper stands so
+  abbrev pub shared_protocol : {S : Type 0} → (S → Kept D) → Protocol S
+  shared_protocol at = record {
     alone = false;
     known = λ s. known_to (at s);
     ready = λ s. (at s).wounded ≡ None;

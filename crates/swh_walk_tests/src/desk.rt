@@ -1,17 +1,17 @@
 // A keeper to which two loaders add.
 ghost use Rattle.std.specs.Prelude.{◌≡◌, None};
 ghost use Rattle.swh_base.specs.Namer.{byte_id};
-ghost use Rattle.swh_walk_tests.specs.Sharing.{IsOthers, AddsAmong, shared_words};
+ghost use Rattle.swh_walk_tests.specs.Sharing.{IsOthers, AddsAmong, shared_protocol};
 ghost use Rattle.swh_walk_tests.specs.Shared.{shared_lawful};
 
 use std::alloc::Global;
 use std::collections::VecDeque;
-use swh_alone::{body_in, carry_out, certificate_in, standing_in};
 use swh_base::{ByteNamer, Entry, Memory, Name, Shared};
 use swh_closure::Cert;
 use swh_fixtures::Archive;
+use swh_ingest::{Destination, Refusal};
+use swh_keeperload::{body_in, carry_out, certificate_in, standing_in};
 use swh_model::Outcome;
-use swh_place::{Place, Refusal};
 use swh_plan::Plan;
 use swh_store::Standing;
 
@@ -38,8 +38,8 @@ fn add_other(keeper: &mut Archive<ByteNamer>, others: &mut VecDeque<Plan<ByteNam
     }
 }
 
-impl Place<Plan<ByteNamer>, Desk> for Second {
-    ghost words = { λ p. shared_words byte_id (λ desk. desk.keeper) };
+impl Destination<Plan<ByteNamer>, Desk> for Second {
+    ghost protocol = { λ p. shared_protocol byte_id (λ desk. desk.keeper) };
 
     ghost fits = { λ p. Unit {0} };
 

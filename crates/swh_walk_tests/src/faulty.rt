@@ -9,13 +9,12 @@ use std::marker::Model;
 use std::test::Fail;
 use swh_base::{ByteNamer, Memory, Name, Shared, Url, VisitKind};
 use swh_fixtures::{Archive, URL, disk, kept};
+use swh_ingest::{Destination, End, Job, Next, Opening, ReadsParts, Turn, Worker, load_parts};
 use swh_keeper::{Keeper, OpenWhy};
 use swh_memory::{MemoryDisk, Room};
 use swh_object::Object;
 use swh_outside::OpenGate;
-use swh_place::Place;
 use swh_plan::Plan;
-use swh_walk::{End, Job, Next, Opening, ReadsParts, Turn, Worker, load_parts};
 
 // Parts that come in their order, and then a fault, and how many bytes the bodies have that are to be shared. Contracts see
 // how many parts are left.
@@ -125,15 +124,15 @@ fn parts_of(alloc: Global, bytes: usize) -> Result<Parts, AllocError> {
 }
 
 // Says whether a load of them is told to be bad.
-fn is_bad<S, P: Place<Plan<ByteNamer>, S>>(
+fn is_bad<S, P: Destination<Plan<ByteNamer>, S>>(
     alloc: Global,
-    place: &P,
+    destination: &P,
     desk: &mut S,
     origin: &Url,
     parts: &mut Parts,
 ) -> bool
-    requires fits { P.fits place.now }
-    requires number { ((P.words place.now).known desk.old).number ≡ 2 }
+    requires fits { P.fits destination.now }
+    requires number { ((P.protocol destination.now).known desk.old).number ≡ 2 }
 {
     let worker = Worker {
         by: 2,
@@ -151,7 +150,7 @@ fn is_bad<S, P: Place<Plan<ByteNamer>, S>>(
         opening: Opening::Found,
         read: Faulty,
     };
-    match load_parts(alloc, place, desk, &turn, &job, parts) {
+    match load_parts(alloc, destination, desk, &turn, &job, parts) {
         Ok(loaded) => loaded.end == End::Bad(()),
         Err(_) => false,
     }

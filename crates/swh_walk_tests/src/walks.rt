@@ -1,24 +1,23 @@
 // What becomes of an input's visit, where another loader adds between.
 ghost use Rattle.std.specs.Prelude.{◌≡◌, IfOk, IfSome};
 ghost use Rattle.swh_base.specs.Namer.{byte_id};
-ghost use Rattle.swh_made.specs.Whole.{HasAllThatIsReached};
-ghost use Rattle.swh_walk.specs.Loading.{IsWhole};
+ghost use Rattle.swh_dedup.specs.Whole.{HasAllThatIsReached};
+ghost use Rattle.swh_ingest.specs.Loading.{IsWhole};
 
 use crate::desk::{Desk, Second};
 use std::alloc::{AllocError, Global};
 use std::collections::VecDeque;
 use std::test::Fail;
 use swh_base::{ByteNamer, Kind, Memory, Name, Url, VisitKind};
+use swh_dedup::Objects;
 use swh_fastload::load_source;
 use swh_fixtures::{URL, made_archive};
-use swh_made::Objects;
+use swh_ingest::{self as walk, ByCall, Destination, Input, Job, Opening, Turn, Worker, load};
 use swh_memory::MemorySource;
 use swh_model::{Event, EventKind};
 use swh_object::Object;
 use swh_outside::OpenGate;
-use swh_place::Place;
 use swh_plan::Plan;
-use swh_walk::{self as walk, ByCall, Input, Job, Opening, Turn, Worker, load};
 
 // The end of a walk.
 #[derive(Clone, Copy, Debug, PartialEq, Eq)]
@@ -149,15 +148,15 @@ fn made_of(alloc: Global, stream: &[u8]) -> Result<Option<Objects<ByteNamer>>, A
 }
 
 // Loads what was made, as a visit of this origin.
-fn load_made<S, P: Place<Plan<ByteNamer>, S>>(
+fn load_made<S, P: Destination<Plan<ByteNamer>, S>>(
     alloc: Global,
-    place: &P,
+    destination: &P,
     desk: &mut S,
     origin: &Url,
     made: Objects<ByteNamer>,
 ) -> End
-    requires fits { P.fits place.now }
-    requires number { ((P.words place.now).known desk.old).number ≡ 2 }
+    requires fits { P.fits destination.now }
+    requires number { ((P.protocol destination.now).known desk.old).number ≡ 2 }
     requires whole { HasAllThatIsReached byte_id made }
 {
     let worker = Worker {
@@ -186,7 +185,7 @@ fn load_made<S, P: Place<Plan<ByteNamer>, S>>(
             },
         },
     };
-    match load(alloc, place, desk, &turn, &job, &mut Some(made)) {
+    match load(alloc, destination, desk, &turn, &job, &mut Some(made)) {
         Ok(loaded) => match loaded.end {
             walk::End::Full { .. } => End::Full,
             walk::End::Met(name) => End::Met(name),

@@ -1,6 +1,6 @@
 // What paths of the read API ask for.
 use std::test::Fail;
-use swh_answer::{Asked, read_path};
+use swh_replies::{Asked, read_path};
 
 // Each path, the word of what it asks for, and the texts in it.
 static PATHS: [(&[u8], &str, &[u8], &[u8]); 28] = [

@@ -1,8 +1,8 @@
 // The names that a request's body lists.
 use std::alloc::Global;
 use std::test::Fail;
-use swh_answer::listed_names;
 use swh_base::Memory;
+use swh_replies::listed_names;
 
 // Bodies, and how many names each lists.
 static LISTS: [(&[u8], usize); 6] = [

@@ -1,12 +1,12 @@
 // Artifacts as JSON: bodies, and the texts that are written of them.
 use std::alloc::Global;
 use std::test::Fail;
-use swh_answer::{
+use swh_base::{Kind, Memory, Name, Shared};
+use swh_dirfmt::spelled_dir;
+use swh_replies::{
     branches_reply, content_value, entries_reply, log_value, release_value, resolved_value,
     revision_value,
 };
-use swh_base::{Kind, Memory, Name, Shared};
-use swh_dirfmt::spelled_dir;
 use swh_revfmt::{spelled_rel, spelled_rev};
 use swh_snpfmt::spelled_snp;
 

@@ -1,9 +1,9 @@
 // Visits as JSON.
 use std::alloc::{AllocError, Global};
 use std::test::Fail;
-use swh_answer::listed_visits;
 use swh_base::{Items, Memory, Status, VisitKind};
 use swh_model::Visit;
+use swh_replies::listed_visits;
 
 const EMPTY_SNAPSHOT: [u8; 20] =
     *b"\x1a\x88\x93\xe6\xa8\x6f\x44\x4e\x8b\xe8\xe7\xbd\xa6\xcb\x34\xfb\x17\x35\xa0\x0e";

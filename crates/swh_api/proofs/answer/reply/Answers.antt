@@ -1,5 +1,5 @@
 use Rattle.std.proofs.Common.{rules, ℕ, List, sym, ◌∙◌, subst}
-use Rattle.swh_answer.specs.Shape.{Spells, shape_of}
+use Rattle.swh_replies.specs.Shape.{Spells, shape_of}
 use Rattle.swh_api.proofs.Loads.{no_url}
 use Rattle.swh_api.proofs.answer.reply.Goals as goal
 

@@ -4,7 +4,7 @@ use Rattle.swh_base.specs.declared.name.Name.{Name}
 use Rattle.swh_dirfmt.specs.Entries.{entries_in_body}
 use Rattle.swh_graph.specs.Answer.{Refuses}
 use Rattle.swh_graph.specs.Holding.{HoldsDirectory}
-use Rattle.swh_answer.specs.Json.{directory_data}
+use Rattle.swh_replies.specs.Json.{directory_data}
 use Rattle.swh_api.specs.Answer.{IsRead}
 use Rattle.swh_api.proofs.Told.{named, read_refuses, fault_by_id, found_by_id}
 use Rattle.swh_api.proofs.objects.directory_reply.Goals as goal

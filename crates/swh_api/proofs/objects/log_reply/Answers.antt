@@ -1,8 +1,8 @@
 use Rattle.std.proofs.Common.{ap, ◌∙◌}
 use Rattle.swh_base.specs.declared.kind.Kind.TheVariants as kind
 use Rattle.swh_graph.specs.Log.{IsLogAnswer}
-use Rattle.swh_answer.specs.Json.{log_data}
-use Rattle.swh_answer.proofs.Values.{log-no_float}
+use Rattle.swh_replies.specs.Json.{log_data}
+use Rattle.swh_replies.proofs.Values.{log-no_float}
 use Rattle.swh_api.specs.Answer.{log_limit}
 use Rattle.swh_api.proofs.Told.{fault_by_id, found_by_id}
 use Rattle.swh_api.proofs.objects.log_reply.Goals as goal

@@ -4,8 +4,8 @@ use Rattle.swh_base.specs.declared.name.Name.{Name}
 use Rattle.swh_revfmt.specs.Reading.{revision_spelled}
 use Rattle.swh_graph.specs.Answer.{Refuses}
 use Rattle.swh_graph.specs.Holding.{HoldsRevision}
-use Rattle.swh_answer.specs.Json.{revision_data}
-use Rattle.swh_answer.proofs.Values.{revision-no_float}
+use Rattle.swh_replies.specs.Json.{revision_data}
+use Rattle.swh_replies.proofs.Values.{revision-no_float}
 use Rattle.swh_api.specs.Answer.{IsRead}
 use Rattle.swh_api.proofs.Told.{named, read_refuses, fault_by_id, found_by_id}
 use Rattle.swh_api.proofs.objects.revision_reply.Goals as goal

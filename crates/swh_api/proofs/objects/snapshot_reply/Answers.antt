@@ -4,7 +4,7 @@ use Rattle.swh_base.specs.declared.name.Name.{Name}
 use Rattle.swh_snpfmt.specs.Branches.{branches_in_body}
 use Rattle.swh_graph.specs.Answer.{Refuses}
 use Rattle.swh_graph.specs.Holding.{HoldsSnapshot}
-use Rattle.swh_answer.specs.Json.{snapshot_data}
+use Rattle.swh_replies.specs.Json.{snapshot_data}
 use Rattle.swh_api.specs.Answer.{IsRead}
 use Rattle.swh_api.proofs.Told.{named, read_refuses, fault_by_id, found_by_id}
 use Rattle.swh_api.proofs.objects.snapshot_reply.Goals as goal

@@ -1,4 +1,4 @@
-use Rattle.swh_answer.specs.Shape.{Load}
+use Rattle.swh_replies.specs.Shape.{Load}
 use Rattle.swh_api.proofs.Loads.{no_load}
 use Rattle.swh_api.proofs.routing.load_text.Goals as goal
 

@@ -1,7 +1,7 @@
 use Rattle.std.proofs.Common.{inl, inr, ap, ◌∙◌, ◌++◌, subst}
 use Rattle.swh_outside.specs.Views.{sources}
 use Rattle.swh_fastlex.specs.Line.{IsAtEnd}
-use Rattle.swh_made.specs.Making.{made_from}
+use Rattle.swh_dedup.specs.Making.{made_from}
 use Rattle.swh_batchread.specs.Giving.{BatchState}
 use Rattle.swh_batchread.specs.Refs.{MeansRefs}
 use Rattle.swh_batchread.specs.RefsFault.{ExplainsRefs}

@@ -1,5 +1,5 @@
 use Rattle.std.proofs.Common.{◌≡◌, ◌++◌, rules}
-use Rattle.swh_made.specs.Whole.{names_of}
+use Rattle.swh_dedup.specs.Whole.{names_of}
 use Rattle.swh_batchread.proofs.NamesKnown.{names_known, objects_more}
 use Rattle.swh_batchread.proofs.names.add_object.Goals as goal
 

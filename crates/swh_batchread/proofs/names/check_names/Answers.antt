@@ -1,4 +1,4 @@
-use Rattle.swh_made.specs.Whole.{names_of}
+use Rattle.swh_dedup.specs.Whole.{names_of}
 use Rattle.swh_batchread.proofs.NamesKnown.{kids_each, lacks, may_lack, names_known}
 use Rattle.swh_batchread.proofs.names.check_names.Goals as goal
 

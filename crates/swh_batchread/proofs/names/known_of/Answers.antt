@@ -3,7 +3,7 @@ use Rattle.std.specs.List.{AllByRecursion}
 use Rattle.std.proofs.lemmas.List.{take_all}
 use Rattle.swh_base.specs.declared.entry.Entry.{Entry}
 use Rattle.swh_object.specs.Object.{IsObject}
-use Rattle.swh_made.proofs.Elements.{all_push}
+use Rattle.swh_dedup.proofs.Elements.{all_push}
 use Rattle.swh_batchread.specs.RefSteps.{KnowsObjects, knowing}
 use Rattle.swh_batchread.proofs.NamesKnown.{take_next}
 use Rattle.swh_batchread.proofs.names.known_of.Goals as goal

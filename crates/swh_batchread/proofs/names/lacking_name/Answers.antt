@@ -1,7 +1,7 @@
 use Rattle.std.proofs.Common.{Contains, take, sym, subst}
 use Rattle.std.specs.List.{AllByRecursion}
 use Rattle.std.proofs.lemmas.List.{take_more, take_all}
-use Rattle.swh_made.proofs.Elements.{all_push}
+use Rattle.swh_dedup.proofs.Elements.{all_push}
 use Rattle.swh_batchread.proofs.NamesKnown.{first_here}
 use Rattle.swh_batchread.proofs.names.lacking_name.Goals as goal
 

@@ -1,5 +1,5 @@
 use Rattle.std.proofs.Common.{◌∙◌}
-use Rattle.swh_made.specs.Making.{made_from}
+use Rattle.swh_dedup.specs.Making.{made_from}
 use Rattle.swh_batchread.proofs.Reaching.{read_more, nothing_left}
 use Rattle.swh_batchread.proofs.objects.read_objects.Goals as goal
 

@@ -1,7 +1,7 @@
 use Rattle.std.proofs.Common.{◌≡◌, ◌≤◌, ◌-◌}
 use Rattle.std.specs.List.{AllByRecursion}
 use Rattle.swh_object.specs.Object.{IsObject}
-use Rattle.swh_made.specs.Making.{made}
+use Rattle.swh_dedup.specs.Making.{made}
 use Rattle.swh_batchread.specs.Batch.{input_limit}
 use Rattle.swh_batchread.specs.Parts.{HasRead}
 use Rattle.swh_batchread.proofs.objects.read_objects.Given as goal

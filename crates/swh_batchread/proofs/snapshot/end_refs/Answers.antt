@@ -3,8 +3,8 @@ use Rattle.std.specs.List.{AllByRecursion}
 use Rattle.swh_base.specs.declared.kind.Kind.TheVariants.{Snapshot}
 use Rattle.swh_base.specs.Snapshot.{SnapshotBranch, AreBranches, snapshot_text}
 use Rattle.swh_snpfmt.specs.Branches.{branch_views}
-use Rattle.swh_made.specs.Making.{object_of}
-use Rattle.swh_made.specs.Whole.{names_of}
+use Rattle.swh_dedup.specs.Making.{object_of}
+use Rattle.swh_dedup.specs.Whole.{names_of}
 use Rattle.swh_batchread.specs.RefsFault.{SnapshotBreaks, MayBreakSnapshot}
 use Rattle.swh_batchread.specs.RefSteps.{HasIdIn, LacksSome, PassesBody}
 use Rattle.swh_batchread.proofs.Breaking.{fails_as}

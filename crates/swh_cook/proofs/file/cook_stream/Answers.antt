@@ -1,5 +1,5 @@
 use Rattle.std.proofs.Common.{◌∙◌, ◌++◌, List, ℕ, ap, subst}
-use Rattle.swh_written.specs.Sinks.{IsTaken}
+use Rattle.swh_fastwrite.specs.Sinks.{IsTaken}
 use Rattle.swh_fastcook.proofs.Acyclic.{all_preceded}
 use Rattle.swh_fastcook.proofs.Cooked.{carried_plain, ready_carried, stream_text}
 use Rattle.swh_cook.proofs.Files.{carried_name, makes_file, makes_none, makes_front, breaks_off}

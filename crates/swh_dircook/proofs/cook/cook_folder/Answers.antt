@@ -2,7 +2,7 @@ use Rattle.std.proofs.Common.{inr, refl, sym, subst}
 use Rattle.swh_carried.specs.Uncarried.{AreCarried}
 use Rattle.swh_graph.specs.Path.{directory_name}
 use Rattle.swh_postorder.specs.Postorder.{IsPostorder}
-use Rattle.swh_heldpaths.proofs.Trees.{some_walk}
+use Rattle.swh_pathwalk.proofs.Trees.{some_walk}
 use Rattle.swh_dircook.specs.Cook.{ExplainsNoFolder}
 use Rattle.swh_dircook.specs.Made.{yarded}
 use Rattle.swh_dircook.specs.Rules.{BreaksInFolder}

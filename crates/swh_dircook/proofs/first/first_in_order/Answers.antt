@@ -1,6 +1,6 @@
 use Rattle.std.proofs.Common.{subst}
 use Rattle.std.specs.Prelude.{Contains}
-use Rattle.swh_graph.proofs.Lists.{only}
+use Rattle.swh_base.proofs.Elementary.{only}
 use Rattle.swh_dircook.proofs.first.first_in_order.Goals as goal
 
 pub ways_from-requires : goal.ways_from-requires

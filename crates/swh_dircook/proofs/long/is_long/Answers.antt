@@ -1,6 +1,6 @@
 use Rattle.std.proofs.Common.{◌≡◌, true, false, refl, sym, ◌∙◌}
 use Rattle.swh_graph.specs.Path.{directory_name}
-use Rattle.swh_heldpaths.proofs.Trees.{some_walk}
+use Rattle.swh_pathwalk.proofs.Trees.{some_walk}
 use Rattle.swh_dircook.proofs.Paths.{root_there, held_order}
 use Rattle.swh_dircook.proofs.Sums.{many_rows, large_files, long_listing, only_listing}
 use Rattle.swh_dircook.proofs.long.is_long.Goals as goal

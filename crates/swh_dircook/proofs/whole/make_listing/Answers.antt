@@ -2,7 +2,7 @@ use Rattle.std.proofs.Common.{ℕ, List, [], ◌∷◌, ◌++◌, length, refl, 
 use Rattle.swh_outside.specs.Sink.{FileAt}
 use Rattle.swh_dircook.specs.Listing.{listing_text}
 use Rattle.swh_dircook.specs.Made.{FileMade, listing_path, yarded}
-use Rattle.swh_written.specs.Sinks.{sinks_add_up}
+use Rattle.swh_fastwrite.specs.Sinks.{sinks_add_up}
 use Rattle.swh_dircook.proofs.Lines.{into_whole, into_front, front_at, listing_made, listing_part}
 use Rattle.swh_dircook.proofs.Makings.{some_at, made_some}
 use Rattle.swh_dircook.proofs.YardParts.{same_yarded}

@@ -3,9 +3,9 @@ use Rattle.std.specs.Str.{IsUtf8}
 use Rattle.swh_graph.specs.Path.{directory_name}
 use Rattle.swh_pathwalk.specs.Walk.{row_of}
 use Rattle.swh_pathwalk.proofs.Weights.{lead_at_first, lighter}
-use Rattle.swh_heldpaths.proofs.Walks.{at_first, at_next, at_last, given_in}
+use Rattle.swh_pathwalk.proofs.Walks.{at_first, at_next, at_last, given_in}
 use Rattle.swh_pathwalk.specs.Tree.{Row}
-use Rattle.swh_heldpaths.proofs.Trees.{some_walk}
+use Rattle.swh_pathwalk.proofs.Trees.{some_walk}
 use Rattle.swh_dircook.specs.Made.{all_made, yarded, after_made}
 use Rattle.swh_dircook.proofs.Makings.{some_at, made_some, rows_at, row_some, row_made}
 use Rattle.swh_dircook.proofs.Paths.{root_there, held, fine_next}

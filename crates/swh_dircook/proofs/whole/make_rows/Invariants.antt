@@ -2,7 +2,7 @@ use Rattle.std.proofs.Common.{◌≡◌, length, List}
 use Rattle.swh_graph.specs.Path.{directory_name}
 use Rattle.swh_pathwalk.specs.Tree.{Row, IsPathWalk}
 use Rattle.swh_pathwalk.specs.Weight.{coming_weight, LeadInto}
-use Rattle.swh_heldpaths.specs.Held.{IsAt}
+use Rattle.swh_pathwalk.specs.Held.{IsAt}
 use Rattle.swh_dircook.specs.Made.{all_made, yarded, after_made}
 use Rattle.swh_dircook.proofs.whole.make_rows.Given as goal
 

@@ -4,9 +4,9 @@ use Rattle.swh_graph.specs.Path.{directory_name}
 use Rattle.swh_pathwalk.specs.Tree.{Row}
 use Rattle.swh_pathwalk.specs.Walk.{row_of}
 use Rattle.swh_pathwalk.proofs.Weights.{lead_at_first, lighter}
-use Rattle.swh_heldpaths.proofs.Walks.{at_first, at_next, at_last, given_in}
-use Rattle.swh_written.specs.Held.{Goes, kept}
-use Rattle.swh_written.proofs.Pieces.{goes_none, front_none}
+use Rattle.swh_pathwalk.proofs.Walks.{at_first, at_next, at_last, given_in}
+use Rattle.swh_fastwrite.specs.Held.{Goes, kept}
+use Rattle.swh_fastwrite.proofs.Pieces.{goes_none, front_none}
 use Rattle.swh_dircook.specs.Listing.{line_or_none, with_path, mode_of, listing_text}
 use Rattle.swh_dircook.proofs.Lines.{line_of, wrote_front, listing_at, listing_some, listing_more}
 use Rattle.swh_dircook.proofs.Paths.{root_there, held}

@@ -2,8 +2,8 @@ use Rattle.std.proofs.Common.{◌≡◌, ◌<◌, length, List}
 use Rattle.swh_graph.specs.Path.{directory_name}
 use Rattle.swh_pathwalk.specs.Tree.{Row, IsPathWalk}
 use Rattle.swh_pathwalk.specs.Weight.{coming_weight, LeadInto}
-use Rattle.swh_heldpaths.specs.Held.{IsAt}
-use Rattle.swh_written.specs.Held.{Goes, kept}
+use Rattle.swh_pathwalk.specs.Held.{IsAt}
+use Rattle.swh_fastwrite.specs.Held.{Goes, kept}
 use Rattle.swh_dircook.specs.Listing.{listing_text}
 use Rattle.swh_dircook.proofs.whole.write_listing.Given as goal
 

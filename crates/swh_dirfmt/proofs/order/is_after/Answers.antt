@@ -1,8 +1,8 @@
 use Rattle.std.proofs.Common.{ap, sym, ◌∙◌}
 use Rattle.std.specs.Ordering.{is_lt}
+use Rattle.swh_base.proofs.Elementary.{less_from}
 use Rattle.swh_dirfmt.specs.Entries.{entry_of}
 use Rattle.swh_dirfmt.proofs.Follows.{after_last, last-before}
-use Rattle.swh_pieces.proofs.Lasts.{less_from}
 use Rattle.swh_dirfmt.proofs.order.is_after.Goals as goal
 
 pub returns-in-Some : goal.returns-in-Some

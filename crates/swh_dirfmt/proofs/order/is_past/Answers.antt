@@ -1,7 +1,7 @@
 use Rattle.std.proofs.Common.{sym, ◌∙◌}
+use Rattle.swh_base.proofs.Elementary.{less_from}
 use Rattle.swh_dirfmt.proofs.Follows.{after_last}
 use Rattle.swh_dirfmt.proofs.Places.{none_past, file_of}
-use Rattle.swh_pieces.proofs.Lasts.{less_from}
 use Rattle.swh_dirfmt.proofs.order.is_past.Goals as goal
 
 pub returns-in-Some : goal.returns-in-Some

@@ -1,8 +1,8 @@
 use Rattle.std.proofs.Common.{List, [], sym, subst, rules}
 use Rattle.std.specs.List.{AllByRecursion}
-use Rattle.swh_made.specs.Making.{made, names_of_made}
+use Rattle.swh_dedup.specs.Making.{made, names_of_made}
 use Rattle.swh_dirmade.specs.Making.{IsHeld}
-use Rattle.swh_dirmade.specs.declared.place.Place.{Place}
+use Rattle.swh_dirmade.specs.declared.member.Member.{Member}
 use Rattle.swh_dirmade.specs.declared.spot.Spot.{Spot}
 use Rattle.swh_dirmade.specs.Sizes.{AreShort}
 use Rattle.swh_dirmade.specs.Spots.{Stand}
@@ -27,7 +27,7 @@ returns-in_err-check_lengths-clause-err g c = λ tells.
     let places = c.in_ok-spots.field-0.places.items in
     let read = c.in_ok-spots.ensures in
     let has = read.has tells in
-    let long : ExplainsLength spots places fault = subst (λ (ps : List Place). ExplainsLength spots ps fault) c.as_slice-2.ensures.value (subst (λ (ss : List Spot). ExplainsLength ss c.as_slice-2.result.now fault) c.as_slice.ensures.value c.in_err-check_lengths.ensures.err) in
+    let long : ExplainsLength spots places fault = subst (λ (ps : List Member). ExplainsLength spots ps fault) c.as_slice-2.ensures.value (subst (λ (ss : List Spot). ExplainsLength ss c.as_slice-2.result.now fault) c.as_slice.ensures.value c.in_err-check_lengths.ensures.err) in
     let broken : ExplainsFolder id tree [] fault = length_breaks id tree spots places has.0 read.table has.1 [] fault long in
     search rules
 
@@ -49,7 +49,7 @@ returns-clause-ok g c = λ tells.
     let taken = taken_none id tree spots places contents read.table has short in
     let goes = same_on spots places in
     let stands = root_listed id tree spots places contents read.table has short [] spots places taken goes read.table in
-    let stand : Stand c.as_slice-3.result.now c.as_slice-4.result.now taken.places = subst (λ (ps : List Place). Stand c.as_slice-3.result.now ps taken.places) (sym c.as_slice-4.ensures.value) (subst (λ (ss : List Spot). Stand ss places taken.places) (sym c.as_slice-3.ensures.value) taken.stand) in
+    let stand : Stand c.as_slice-3.result.now c.as_slice-4.result.now taken.places = subst (λ (ps : List Member). Stand c.as_slice-3.result.now ps taken.places) (sym c.as_slice-4.ensures.value) (subst (λ (ss : List Spot). Stand ss places taken.places) (sym c.as_slice-3.ensures.value) taken.stand) in
     let held = subst (AllByRecursion (IsHeld (names_of_made id (made contents)))) (sym c.as_slice-4.ensures.value) (table_held id tree spots places contents has) in
     let gives = c.in_ok-root.ensures.gives contents taken.places held stand stands in
     root_of id tree spots places contents read.table has short [] spots places gives.0 c.in_ok-root.root taken goes read.table short gives.1

@@ -1,5 +1,5 @@
 use Rattle.std.proofs.Common.{List, sym, subst, rules}
-use Rattle.swh_dirmade.specs.declared.place.Place.{Place}
+use Rattle.swh_dirmade.specs.declared.member.Member.{Member}
 use Rattle.swh_dirmade.specs.declared.spot.Spot.{Spot}
 use Rattle.swh_dirmade.specs.Sizes.{AreShort}
 use Rattle.swh_dirload.specs.Loading.{ExplainsLength}
@@ -22,7 +22,7 @@ returns-in_err-check_lengths-clause-err g c = λ tells _.
     let spots = c.in_ok-spots.field-0.spots.items in
     let places = c.in_ok-spots.field-0.places.items in
     let read = c.in_ok-spots.ensures in
-    let long : ExplainsLength spots places fault = subst (λ (ps : List Place). ExplainsLength spots ps fault) c.as_slice-2.ensures.value (subst (λ (ss : List Spot). ExplainsLength ss c.as_slice-2.result.now fault) c.as_slice.ensures.value c.in_err-check_lengths.ensures.err) in
+    let long : ExplainsLength spots places fault = subst (λ (ps : List Member). ExplainsLength spots ps fault) c.as_slice-2.ensures.value (subst (λ (ss : List Spot). ExplainsLength ss c.as_slice-2.result.now fault) c.as_slice.ensures.value c.in_err-check_lengths.ensures.err) in
     let broken : ExplainsFolder id tree text fault = length_breaks id tree spots places c.read_folder.new.given read.table (read.has tells) text fault long in
     search rules
 

@@ -1,5 +1,5 @@
 use Rattle.std.proofs.Common.{List, [], sym, subst, rules}
-use Rattle.swh_dirmade.specs.declared.place.Place.{Place}
+use Rattle.swh_dirmade.specs.declared.member.Member.{Member}
 use Rattle.swh_dirmade.specs.declared.spot.Spot.{Spot}
 use Rattle.swh_dirmade.specs.Sizes.{AreShort}
 use Rattle.swh_dirmade.specs.Spots.{Stand}
@@ -22,7 +22,7 @@ returns-in_err-check_lengths-clause-err g c = λ tells.
     let spots = c.in_ok-spots.field-0.spots.items in
     let places = c.in_ok-spots.field-0.places.items in
     let read = c.in_ok-spots.ensures in
-    let long : ExplainsLength spots places fault = subst (λ (ps : List Place). ExplainsLength spots ps fault) c.as_slice-2.ensures.value (subst (λ (ss : List Spot). ExplainsLength ss c.as_slice-2.result.now fault) c.as_slice.ensures.value c.in_err-check_lengths.ensures.err) in
+    let long : ExplainsLength spots places fault = subst (λ (ps : List Member). ExplainsLength spots ps fault) c.as_slice-2.ensures.value (subst (λ (ss : List Spot). ExplainsLength ss c.as_slice-2.result.now fault) c.as_slice.ensures.value c.in_err-check_lengths.ensures.err) in
     let broken : ExplainsFolder id tree [] fault = length_breaks id tree spots places c.read_folder.new.given read.table (read.has tells) [] fault long in
     search rules
 
@@ -39,5 +39,5 @@ returns-clause-ok g c = λ tells.
     let taken = taken_none id tree spots places contents read.table has short in
     let goes = same_on spots places in
     let root = root_listed id tree spots places contents read.table has short [] spots places taken goes read.table in
-    let stand : Stand c.as_slice-3.result.now c.as_slice-4.result.now taken.places = subst (λ (ps : List Place). Stand c.as_slice-3.result.now ps taken.places) (sym c.as_slice-4.ensures.value) (subst (λ (ss : List Spot). Stand ss places taken.places) (sym c.as_slice-3.ensures.value) taken.stand) in
+    let stand : Stand c.as_slice-3.result.now c.as_slice-4.result.now taken.places = subst (λ (ps : List Member). Stand c.as_slice-3.result.now ps taken.places) (sym c.as_slice-4.ensures.value) (subst (λ (ss : List Spot). Stand ss places taken.places) (sym c.as_slice-3.ensures.value) taken.stand) in
     means_listed id tree spots places contents read.table has short [] spots places c.in_ok-loaded.loaded.objects.items c.in_ok-loaded.loaded.snapshot taken goes read.table short (c.in_ok-loaded.ensures.makes taken.places stand root) c.in_ok-loaded.ensures.once

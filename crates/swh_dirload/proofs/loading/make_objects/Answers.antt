@@ -1,9 +1,9 @@
 use Rattle.std.proofs.Common.{List, [], Contains, sym, subst}
 use Rattle.swh_base.specs.declared.entry.Entry.{Entry}
 use Rattle.swh_base.specs.Snapshot.{snapshot_name}
-use Rattle.swh_made.specs.Giving.{AreNew}
-use Rattle.swh_made.specs.Whole.{names_of}
-use Rattle.swh_made.proofs.Wholes.{new_whole}
+use Rattle.swh_dedup.specs.Giving.{AreNew}
+use Rattle.swh_dedup.specs.Whole.{names_of}
+use Rattle.swh_dedup.proofs.Wholes.{new_whole}
 use Rattle.swh_dirload.specs.Loading.{MakesAll}
 use Rattle.swh_dirload.proofs.Loadings.{makes_all, has_snapshot}
 use Rattle.swh_dirload.proofs.loading.make_objects.Goals as goal

@@ -1,5 +1,5 @@
 use Rattle.std.proofs.Common.{inl, inr, ◌⊎◌, List, subst, rules}
-use Rattle.swh_dirmade.specs.declared.place.Place.{Place}
+use Rattle.swh_dirmade.specs.declared.member.Member.{Member}
 use Rattle.swh_dirmade.specs.declared.spot.Spot.{Spot}
 use Rattle.swh_dirload.specs.Lines.{ExplainsLines}
 use Rattle.swh_dirload.specs.Loading.{ExplainsLength, IsLongAfter}
@@ -18,7 +18,7 @@ returns-in_err-check_lengths-clause-err g c = λ tells before stand.
     let fault = c.in_err-check_lengths.field-0.0 in
     let spots = c.take_lines.new.spots.items in
     let places = c.take_lines.new.places.items in
-    let long : ExplainsLength spots places fault = subst (λ (ps : List Place). ExplainsLength spots ps fault) c.as_slice-3.ensures.value (subst (λ (ss : List Spot). ExplainsLength ss c.as_slice-3.result.now fault) c.as_slice-2.ensures.value c.in_err-check_lengths.ensures.err) in
+    let long : ExplainsLength spots places fault = subst (λ (ps : List Member). ExplainsLength spots ps fault) c.as_slice-3.ensures.value (subst (λ (ss : List Spot). ExplainsLength ss c.as_slice-3.result.now fault) c.as_slice-2.ensures.value c.in_err-check_lengths.ensures.err) in
     let after : IsLongAfter before text c.args.spots.now.items c.args.places.now.items spots places fault = record {
       taken = c.in_ok-take_lines.ensures.taken tells before stand;
       goes = c.in_ok-take_lines.ensures.goes;

@@ -1,7 +1,7 @@
 use Rattle.std.proofs.Common.{◌≡◌, ◌∷◌, [], ◌++◌, inr, length, refl, ap, ◌∙◌, rules}
 use Rattle.swh_base.specs.declared.kind.Kind.TheVariants.{Content}
 use Rattle.swh_dirmade.proofs.Built.{grows}
-use Rattle.swh_dirmade.specs.declared.place.Place.TheVariants as stands
+use Rattle.swh_dirmade.specs.declared.member.Member.TheVariants as stands
 use Rattle.swh_outside.specs.declared.folder.What.TheVariants.{File}
 use Rattle.swh_dirload.specs.Reading.{ExplainsRead}
 use Rattle.swh_dirload.proofs.Helds.{content_entry, gives_content, holds_content}

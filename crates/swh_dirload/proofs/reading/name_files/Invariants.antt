@@ -1,5 +1,5 @@
 use Rattle.std.specs.List.{AllByRecursion}
-use Rattle.swh_made.specs.Making.{made, names_of_made}
+use Rattle.swh_dedup.specs.Making.{made, names_of_made}
 use Rattle.swh_dirmade.specs.Making.{IsHeld}
 use Rattle.std.proofs.Common.{◌≡◌, ◌≤◌, List, [], length, take}
 use Rattle.swh_base.specs.declared.entry.Entry.{Entry}

@@ -1,11 +1,11 @@
 use Rattle.std.proofs.Common.{◌≡◌, ℕ, ◌+◌, ◌<◌, List, [], ◌∷◌, length, length-append, take, get_or, sym, ap, ◌∙◌, subst, arith, rules}
 use Rattle.std.specs.List.{AllByRecursion}
-use Rattle.swh_made.specs.Making.{made, names_of_made}
+use Rattle.swh_dedup.specs.Making.{made, names_of_made}
 use Rattle.swh_dirmade.specs.Making.{IsHeld}
 use Rattle.swh_dirload.proofs.Helds.{held_push}
 use Rattle.swh_outside.specs.Folder.{Tree}
 use Rattle.swh_dirload.specs.declared.found.Found.{Found}
-use Rattle.swh_dirmade.specs.declared.place.Place.{Place}
+use Rattle.swh_dirmade.specs.declared.member.Member.{Member}
 use Rattle.swh_dirload.specs.Found.{path_in, paths_of, items_of, IsPlaced}
 use Rattle.swh_dirload.specs.Reading.{IsRead, ReadsAll, ExplainsRead, ExplainsReading}
 use Rattle.swh_dirload.proofs.Tables.{placed_at}
@@ -64,7 +64,7 @@ files-preserved g c =
       reads = λ tells.
           let here = subst (λ (t : Tree). (count : ℕ) × (c.in_ok-place.now ≡ c.files.total + count) × IsRead id t path item.what count c.files.given c.in_ok-place.place new) (inv.same tells) (read.read tells) in
           let step = subst (λ (f : Found). (count : ℕ) × (c.in_ok-place.now ≡ c.files.total + count) × IsRead id tree path f.what count c.files.given c.in_ok-place.place new) c.index-found-number.is here in
-          subst (λ (ps : List Place). ReadsAll id tree 0 c.args.given.now (items_of (take (k + 1) found)) ps c.in_ok-place.now new) (sym c.in_ok-push.ensures.items)
+          subst (λ (ps : List Member). ReadsAll id tree 0 c.args.given.now (items_of (take (k + 1) found)) ps c.in_ok-place.now new) (sym c.in_ok-push.ensures.items)
           (reads_more id tree c.args.given.now found k item c.files.places.items c.files.total c.in_ok-place.now c.files.given path c.in_ok-place.place new lt named (inv.reads tells) step read.within);
       same_path = read.same_path ∙ inv.same_path;
       quiet = read.quiet (λ h. cc) ∙ inv.quiet;

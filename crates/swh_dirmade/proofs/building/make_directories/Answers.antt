@@ -1,6 +1,6 @@
 use Rattle.std.proofs.Common.{◌≡◌, ◌≤◌, ℕ, List, length, refl, inl, sym, ap, ◌∙◌, subst, arith, rules}
 use Rattle.swh_base.specs.Directory.{DirectoryEntry}
-use Rattle.swh_made.specs.Making.{made, names_of_made}
+use Rattle.swh_dedup.specs.Making.{made, names_of_made}
 use Rattle.swh_dirfmt.specs.Entries.{entry_views}
 use Rattle.swh_dirmade.specs.Building.{list_views, list_at, Builds}
 use Rattle.swh_dirmade.specs.Making.{GivesDirectory}

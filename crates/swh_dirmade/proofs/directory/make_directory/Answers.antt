@@ -1,7 +1,7 @@
 use Rattle.std.proofs.Common.{ap, ◌∙◌}
 use Rattle.swh_base.specs.declared.name.Name.{Name}
 use Rattle.swh_dirfmt.specs.Entries.{entry_views}
-use Rattle.swh_made.specs.Making.{made, names_of_made}
+use Rattle.swh_dedup.specs.Making.{made, names_of_made}
 use Rattle.swh_dirmade.proofs.Entries.{object_kids, object_named}
 use Rattle.swh_dirmade.proofs.directory.make_directory.Goals as goal
 

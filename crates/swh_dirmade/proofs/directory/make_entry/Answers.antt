@@ -1,5 +1,5 @@
 use Rattle.std.proofs.Common.{◌≡◌, refl, rules}
-use Rattle.swh_made.specs.Making.{made, names_of_made}
+use Rattle.swh_dedup.specs.Making.{made, names_of_made}
 use Rattle.swh_dirfmt.specs.Entries.{entry_views}
 use Rattle.swh_dirmade.proofs.Built.{makes_file}
 use Rattle.swh_dirmade.proofs.directory.make_entry.Goals as goal

@@ -1,7 +1,7 @@
 use Rattle.std.proofs.Common.{◌≡◌, ◌+◌, List, length}
 use Rattle.std.specs.List.{AllByRecursion}
 use Rattle.swh_base.specs.declared.entry.Entry.{Entry}
-use Rattle.swh_made.specs.Making.{made, names_of_made}
+use Rattle.swh_dedup.specs.Making.{made, names_of_made}
 use Rattle.swh_dirmade.specs.Building.{list_views, Builds}
 use Rattle.swh_dirmade.specs.Making.{IsHeld}
 use Rattle.swh_dirmade.proofs.naming.name_directories.Given as goal

@@ -1,7 +1,7 @@
 use Rattle.std.proofs.Common.{◌≡◌, ◌<◌, ℕ, [], length, get_or, inr, sym, ◌∙◌, subst, arith}
-use Rattle.swh_made.specs.Making.{made, names_of_made}
+use Rattle.swh_dedup.specs.Making.{made, names_of_made}
 use Rattle.swh_dirfmt.specs.Entries.{entry_view, entry_views}
-use Rattle.swh_dirmade.specs.declared.place.Place.TheVariants as stands
+use Rattle.swh_dirmade.specs.declared.member.Member.TheVariants as stands
 use Rattle.swh_dirmade.specs.Building.{list_views, Builds}
 use Rattle.swh_dirmade.specs.Spots.{place_at}
 use Rattle.swh_dirmade.proofs.Built.{held_now, may_be_next, put_built}

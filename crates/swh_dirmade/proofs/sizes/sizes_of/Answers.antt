@@ -1,6 +1,6 @@
 use Rattle.std.proofs.Common.{◌≡◌, ◌<◌, ◌≤◌, ◌+◌, ◌-◌, ℕ, suc, List, [], length, get_or, set, ap, ◌∙◌, subst, arith, rules}
 use Rattle.std.proofs.lemmas.List.{length-set}
-use Rattle.swh_dirmade.specs.declared.place.Place.TheVariants as stands
+use Rattle.swh_dirmade.specs.declared.member.Member.TheVariants as stands
 use Rattle.swh_dirmade.specs.Directories.{entry_size}
 use Rattle.swh_dirmade.specs.Sizes.{size_at, AreSizes}
 use Rattle.swh_dirmade.specs.Spots.{above_at, name_at, place_at}

@@ -4,7 +4,7 @@ use Rattle.swh_base.specs.declared.name.Name.{Name}
 use Rattle.swh_base.specs.Manifest.{AreChildren}
 use Rattle.swh_base.specs.Snapshot.{AreBranches, IsSnapshot, branch_child}
 use Rattle.swh_model.specs.Meaning.{Made}
-use Rattle.swh_made.specs.Making.{made, names_of_made}
+use Rattle.swh_dedup.specs.Making.{made, names_of_made}
 use Rattle.swh_dirmade.specs.Making.{directory_name}
 use Rattle.swh_dirmade.specs.Snapshots.{head}
 use Rattle.swh_dirmade.proofs.Heads.{head_good, head_short, head_kids}

@@ -1,5 +1,5 @@
 use Rattle.swh_base.specs.Namer.{sha1_id}
-use Rattle.swh_made.specs.Making.{made, names_of_made}
+use Rattle.swh_dedup.specs.Making.{made, names_of_made}
 use Rattle.swh_dirmade_tests.proofs.making.end_of.Goals as goal
 
 pub made_of-requires-clause-held : goal.made_of-requires-clause-held

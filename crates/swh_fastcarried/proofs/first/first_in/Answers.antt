@@ -5,8 +5,8 @@ use Rattle.std.specs.BTreeMap.{is_at}
 use Rattle.swh_base.specs.declared.kind.Kind.TheVariants.{Content}
 use Rattle.swh_base.specs.declared.name.Name.{Name}
 use Rattle.swh_base.specs.Name.{name_cmp}
-use Rattle.swh_ways.specs.Ways.{ComesFrom, TellAll}
-use Rattle.swh_ways.proofs.WaySteps.{told_at_last, told_at, here_at}
+use Rattle.swh_carried.specs.Ways.{ComesFrom, TellAll}
+use Rattle.swh_carried.proofs.WaySteps.{told_at_last, told_at, here_at}
 use Rattle.swh_fastcarried.specs.First.{IsFirstFound}
 use Rattle.swh_fastcarried.specs.Rules.{BreaksIn}
 use Rattle.swh_fastcarried.proofs.FromEnd.{none_at_end, found_more, found_at}

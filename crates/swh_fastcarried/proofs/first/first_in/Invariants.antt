@@ -1,6 +1,6 @@
 use Rattle.std.specs.Prelude.{IsTrue}
 use Rattle.std.proofs.Common.{◌≤◌, drop, length}
-use Rattle.swh_ways.specs.Ways.{ComesFrom, TellAll}
+use Rattle.swh_carried.specs.Ways.{ComesFrom, TellAll}
 use Rattle.swh_fastcarried.specs.First.{IsFirstFound}
 use Rattle.swh_fastcarried.specs.Rules.{BreaksIn}
 use Rattle.swh_fastcarried.proofs.first.first_in.Given as goal

@@ -3,7 +3,7 @@ use Rattle.std.specs.Map.{lookup}
 use Rattle.std.specs.BTreeMap.{is_at}
 use Rattle.swh_base.specs.Name.{name_cmp}
 use Rattle.swh_dirfmt.specs.Entries.{entries_in_body}
-use Rattle.swh_ways.specs.Ways.{Tells, TellsOfFolders}
+use Rattle.swh_carried.specs.Ways.{Tells, TellsOfFolders}
 use Rattle.swh_fastcarried.specs.RevisionWays.{IsWay}
 use Rattle.swh_fastcarried.proofs.Reaching.{if_ok, on_ok, none_broken, nothing_told, folders_told, rule_held}
 use Rattle.swh_fastcarried.proofs.first.rule_of_directory.Goals as goal

@@ -1,6 +1,6 @@
 use Rattle.std.proofs.Common.{ℕ, List, [], ◌∷◌, ◌++◌, length, subst}
-use Rattle.swh_fasttext.specs.Text.{blob_head}
-use Rattle.swh_written.specs.Held.{Wrote, kept}
+use Rattle.swh_fastwrite.specs.Text.{blob_head}
+use Rattle.swh_fastwrite.specs.Held.{Wrote, kept}
 use Rattle.swh_fastcook.proofs.CommitTexts.{blob_is}
 use Rattle.swh_fastcook.proofs.Texts.{pushed, wrote_both}
 use Rattle.swh_fastcook.proofs.commits.write_blob.Goals as goal

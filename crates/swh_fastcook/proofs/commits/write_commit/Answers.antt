@@ -1,5 +1,5 @@
 use Rattle.swh_revfmt.specs.PlainReading.{plain_revision}
-use Rattle.swh_written.specs.Held.{kept}
+use Rattle.swh_fastwrite.specs.Held.{kept}
 use Rattle.swh_fastcook.specs.Files.{IsCommitOf}
 use Rattle.swh_fastcook.proofs.CommitTexts.{commit_done, front_stopped, files_stopped, end_stopped}
 use Rattle.swh_fastcook.proofs.Texts.{stopped_some}

@@ -1,8 +1,8 @@
 use Rattle.std.proofs.Common.{ℕ, List, [], ◌∷◌, ◌++◌, length, ap, ◌∙◌, subst}
 use Rattle.swh_revfmt.specs.PlainReading.{plain_revision}
-use Rattle.swh_fasttext.specs.Text.{commit_head, data_line}
-use Rattle.swh_written.specs.Held.{kept, Goes}
-use Rattle.swh_written.proofs.Pieces.{front_none}
+use Rattle.swh_fastwrite.specs.Text.{commit_head, data_line}
+use Rattle.swh_fastwrite.specs.Held.{kept, Goes}
+use Rattle.swh_fastwrite.proofs.Pieces.{front_none}
 use Rattle.swh_fastcook.specs.Stream.{beginning, commit_front}
 use Rattle.swh_fastcook.proofs.CommitTexts.{message_broke, parents_broke, front_done}
 use Rattle.swh_fastcook.proofs.Texts.{stopped}

@@ -1,6 +1,6 @@
 use Rattle.std.proofs.Common.{ℕ, List, [], ◌∷◌, ◌++◌, length, subst, append_assoc}
-use Rattle.swh_fasttext.specs.Text.{tag_head, data_line}
-use Rattle.swh_written.specs.Held.{Wrote, kept}
+use Rattle.swh_fastwrite.specs.Text.{tag_head, data_line}
+use Rattle.swh_fastwrite.specs.Held.{Wrote, kept}
 use Rattle.swh_marks.specs.Marks.{mark_of}
 use Rattle.swh_fastcook.proofs.Texts.{pushed, wrote_both}
 use Rattle.swh_fastcook.proofs.commits.write_tag.Goals as goal

@@ -1,4 +1,4 @@
-use Rattle.swh_heldpaths.proofs.Walks.{not_missing}
+use Rattle.swh_pathwalk.proofs.Walks.{not_missing}
 use Rattle.swh_fastcook.proofs.ends.branches_of.Goals as goal
 
 pub unreachable-requires : goal.unreachable-requires

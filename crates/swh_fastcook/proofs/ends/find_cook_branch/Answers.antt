@@ -2,7 +2,7 @@ use Rattle.std.proofs.Common.{◌≡◌, [], get_or, sym, subst, List}
 use Rattle.std.specs.Prelude.{◌≢◌, Contains}
 use Rattle.std.proofs.lemmas.List.{take_all}
 use Rattle.swh_base.specs.declared.kind.Kind.TheVariants.{Content}
-use Rattle.swh_fasttext.specs.Text.{cook_branch}
+use Rattle.swh_fastwrite.specs.Text.{cook_branch}
 use Rattle.swh_snpfmt.specs.declared.branch.SpelledBranch.{SpelledBranch}
 use Rattle.swh_snpfmt.specs.declared.branch.SpelledTarget.TheVariants.{Object}
 use Rattle.swh_fastcook.proofs.EndTexts.{not_so}

@@ -1,7 +1,7 @@
 use Rattle.std.proofs.Common.{◌≡◌, ◌++◌, codes}
 use Rattle.swh_base.specs.declared.kind.Kind.TheVariants.{Snapshot}
-use Rattle.swh_written.specs.Held.{kept}
-use Rattle.swh_written.proofs.Pieces.{front_none}
+use Rattle.swh_fastwrite.specs.Held.{kept}
+use Rattle.swh_fastwrite.proofs.Pieces.{front_none}
 use Rattle.swh_fastcook.specs.Ends.{IsEnd, end_or_none, main_tip}
 use Rattle.swh_fastcook.proofs.EndTexts.{not_so, object_end}
 use Rattle.swh_fastcook.proofs.Texts.{pushed, stopped_some}

@@ -1,10 +1,10 @@
 use Rattle.std.proofs.Common.{◌≡◌, arith, ℕ, List, [], ◌∷◌, ◌++◌, refl, sym, ap, ◌∙◌, subst}
 use Rattle.swh_base.specs.declared.name.Name.{Name}
-use Rattle.swh_heldpaths.specs.Held.{IsHeldOrder}
+use Rattle.swh_pathwalk.specs.Held.{IsHeldOrder}
 use Rattle.swh_pathwalk.specs.Weight.{LeadInto}
 use Rattle.swh_pathwalk.specs.Walk.{row_of}
-use Rattle.swh_written.specs.Held.{kept}
-use Rattle.swh_written.proofs.Pieces.{goes_none, front_none}
+use Rattle.swh_fastwrite.specs.Held.{kept}
+use Rattle.swh_fastwrite.proofs.Pieces.{goes_none, front_none}
 use Rattle.swh_fastcook.specs.Files.{row_at, AreFilesOf}
 use Rattle.swh_fastcook.specs.Stream.{file_text, files_text}
 use Rattle.swh_fastcook.proofs.FileWalks.{leads_at_first, steps_on}

@@ -1,7 +1,7 @@
 use Rattle.std.proofs.Common.{◌≡◌, ◌≤◌, length, max, List}
 use Rattle.swh_pathwalk.specs.Tree.{Row}
 use Rattle.swh_pathwalk.specs.Weight.{coming_weight}
-use Rattle.swh_written.specs.Held.{Goes, kept}
+use Rattle.swh_fastwrite.specs.Held.{Goes, kept}
 use Rattle.swh_fastcook.specs.Files.{RowsSoFar, Leads}
 use Rattle.swh_fastcook.specs.Stream.{files_text}
 use Rattle.swh_fastcook.proofs.files.write_files.Given as goal

@@ -1,6 +1,6 @@
 use Rattle.std.proofs.Common.{◌≡◌, ℕ, ◌+◌, ◌++◌, List, length, ap, ◌∙◌, subst, codes}
 use Rattle.swh_revfmt.specs.PlainReading.{plain_revision}
-use Rattle.swh_fasttext.specs.Text.{commit_head, data_line}
+use Rattle.swh_fastwrite.specs.Text.{commit_head, data_line}
 use Rattle.swh_pathsums.specs.Lengths.{IsUpTo}
 use Rattle.swh_fastcook.specs.Stream.{beginning, parents_text, files_text}
 use Rattle.swh_fastcook.proofs.Lengths.{commit_count}

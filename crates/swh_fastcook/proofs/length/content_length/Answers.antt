@@ -1,6 +1,6 @@
 use Rattle.std.proofs.Common.{ℕ, List, length, refl, subst}
 use Rattle.std.proofs.lemmas.Result.{IfOk-weaker}
-use Rattle.swh_fasttext.specs.Text.{blob_text}
+use Rattle.swh_fastwrite.specs.Text.{blob_text}
 use Rattle.swh_marks.specs.Marks.{mark_of}
 use Rattle.swh_pathsums.specs.Lengths.{IsUpTo}
 use Rattle.swh_fastcook.specs.Lengths.{HasLengthOf}

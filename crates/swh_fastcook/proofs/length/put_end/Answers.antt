@@ -1,4 +1,4 @@
-use Rattle.swh_written.specs.Held.{kept}
+use Rattle.swh_fastwrite.specs.Held.{kept}
 use Rattle.swh_fastcook.proofs.StreamTexts.{all_taken}
 use Rattle.swh_fastcook.proofs.length.put_end.Goals as goal
 

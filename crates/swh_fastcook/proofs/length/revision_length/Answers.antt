@@ -3,8 +3,8 @@ use Rattle.std.proofs.lemmas.Result.{IfOk-weaker}
 use Rattle.swh_base.specs.declared.kind.Kind.TheVariants.{Directory}
 use Rattle.swh_graph.specs.Path.{directory_name}
 use Rattle.swh_pathwalk.specs.Tree.{Row}
-use Rattle.swh_heldpaths.specs.Held.{IsHeldOrder}
-use Rattle.swh_heldpaths.proofs.Trees.{some_walk}
+use Rattle.swh_pathwalk.specs.Held.{IsHeldOrder}
+use Rattle.swh_pathwalk.proofs.Trees.{some_walk}
 use Rattle.swh_revfmt.specs.PlainReading.{plain_revision}
 use Rattle.swh_fastcarried.proofs.OddObjects.{of_revision}
 use Rattle.swh_pathsums.specs.Lengths.{IsUpTo}

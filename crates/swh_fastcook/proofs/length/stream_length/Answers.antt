@@ -2,7 +2,7 @@ use Rattle.std.proofs.Common.{List, [], refl, sym, subst}
 use Rattle.std.specs.Prelude.{Contains}
 use Rattle.swh_base.specs.declared.name.Name.{Name}
 use Rattle.swh_graph.specs.Path.{directory_name}
-use Rattle.swh_heldpaths.specs.Held.{IsHeldOrder}
+use Rattle.swh_pathwalk.specs.Held.{IsHeldOrder}
 use Rattle.swh_postorder.proofs.Orders.{order_are}
 use Rattle.swh_fastcarried.specs.Rules.{IsOddObject}
 use Rattle.swh_fastcook.proofs.FileWalks.{files_of}

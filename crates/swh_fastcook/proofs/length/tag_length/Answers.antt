@@ -1,5 +1,5 @@
 use Rattle.std.proofs.Common.{ℕ, ◌+◌, List, length, subst}
-use Rattle.swh_fasttext.specs.Text.{tag_head, data_line}
+use Rattle.swh_fastwrite.specs.Text.{tag_head, data_line}
 use Rattle.swh_marks.specs.Marks.{mark_of}
 use Rattle.swh_pathsums.specs.Lengths.{IsUpTo}
 use Rattle.swh_fastcook.proofs.Lengths.{tag_count}

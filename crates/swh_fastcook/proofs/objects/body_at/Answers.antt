@@ -1,4 +1,4 @@
-use Rattle.swh_heldpaths.proofs.Walks.{not_missing}
+use Rattle.swh_pathwalk.proofs.Walks.{not_missing}
 use Rattle.swh_fastcook.proofs.objects.body_at.Goals as goal
 
 pub unreachable-requires : goal.unreachable-requires

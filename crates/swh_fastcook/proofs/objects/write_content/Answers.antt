@@ -1,6 +1,6 @@
 use Rattle.std.proofs.Common.{ℕ, List, refl, subst}
-use Rattle.swh_fasttext.specs.Text.{blob_text}
-use Rattle.swh_written.specs.Held.{Wrote, kept}
+use Rattle.swh_fastwrite.specs.Text.{blob_text}
+use Rattle.swh_fastwrite.specs.Held.{Wrote, kept}
 use Rattle.swh_marks.specs.Marks.{mark_of}
 use Rattle.swh_fastcook.specs.Stream.{IsBlob}
 use Rattle.swh_fastcook.proofs.ObjectTexts.{one_blob, wrote_one}

@@ -3,8 +3,8 @@ use Rattle.std.proofs.lemmas.List.{take_all}
 use Rattle.std.proofs.lemmas.List.Elements.{Contains-get_or}
 use Rattle.swh_base.specs.declared.kind.Kind.TheVariants.{Content}
 use Rattle.swh_base.specs.declared.name.Name.{Name}
-use Rattle.swh_written.specs.Held.{kept}
-use Rattle.swh_written.proofs.Pieces.{goes_none}
+use Rattle.swh_fastwrite.specs.Held.{kept}
+use Rattle.swh_fastwrite.proofs.Pieces.{goes_none}
 use Rattle.swh_fastcook.specs.Stream.{AreObjectTexts}
 use Rattle.swh_fastcook.proofs.ObjectTexts.{texts_more, texts_stopped}
 use Rattle.swh_fastcook.proofs.Texts.{stopped_some}

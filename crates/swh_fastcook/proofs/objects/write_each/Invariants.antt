@@ -1,5 +1,5 @@
 use Rattle.std.proofs.Common.{◌≡◌, List, ℕ, take}
-use Rattle.swh_written.specs.Held.{Goes, kept}
+use Rattle.swh_fastwrite.specs.Held.{Goes, kept}
 use Rattle.swh_fastcook.specs.Stream.{AreObjectTexts}
 use Rattle.swh_fastcook.proofs.objects.write_each.Given as goal
 

@@ -2,8 +2,8 @@ use Rattle.std.proofs.Common.{[], refl}
 use Rattle.std.specs.Prelude.{Result, Ok}
 use Rattle.swh_base.specs.declared.kind.Kind.TheVariants.{Content, Directory, Revision as RevisionKind, Release as ReleaseKind, Snapshot}
 use Rattle.swh_carried.specs.declared.fault.CookFault.{CookFault}
-use Rattle.swh_written.specs.Held.{kept}
-use Rattle.swh_written.proofs.Pieces.{goes_none}
+use Rattle.swh_fastwrite.specs.Held.{kept}
+use Rattle.swh_fastwrite.proofs.Pieces.{goes_none}
 use Rattle.swh_fastcook.proofs.ObjectTexts.{wrote_kind}
 use Rattle.swh_fastcook.proofs.objects.write_object.Goals as goal
 

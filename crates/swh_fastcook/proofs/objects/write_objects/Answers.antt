@@ -1,7 +1,7 @@
 use Rattle.std.proofs.Common.{List, subst}
 use Rattle.std.specs.Prelude.{Contains}
 use Rattle.swh_base.specs.declared.name.Name.{Name}
-use Rattle.swh_written.specs.Held.{WroteSome, kept}
+use Rattle.swh_fastwrite.specs.Held.{WroteSome, kept}
 use Rattle.swh_fastcook.specs.Stream.{AreObjectTexts}
 use Rattle.swh_fastcook.proofs.objects.write_objects.Goals as goal
 

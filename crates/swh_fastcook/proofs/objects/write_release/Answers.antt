@@ -1,7 +1,7 @@
 use Rattle.swh_revfmt.specs.PlainReading.{plain_release}
 use Rattle.swh_fastcarried.proofs.OddObjects.{of_release}
-use Rattle.swh_written.specs.Held.{kept}
-use Rattle.swh_written.proofs.Pieces.{front_none}
+use Rattle.swh_fastwrite.specs.Held.{kept}
+use Rattle.swh_fastwrite.proofs.Pieces.{front_none}
 use Rattle.swh_fastcook.specs.Stream.{IsTag, tag_text}
 use Rattle.swh_fastcook.proofs.Kids.{object_in, object_written}
 use Rattle.swh_fastcook.proofs.ObjectTexts.{one_tag, tag_is, wrote_one}

@@ -1,7 +1,7 @@
 use Rattle.swh_revfmt.specs.PlainReading.{plain_revision}
 use Rattle.swh_fastcarried.proofs.OddObjects.{of_revision}
-use Rattle.swh_written.specs.Held.{kept}
-use Rattle.swh_written.proofs.Pieces.{front_none}
+use Rattle.swh_fastwrite.specs.Held.{kept}
+use Rattle.swh_fastwrite.proofs.Pieces.{front_none}
 use Rattle.swh_fastcook.specs.Files.{IsCommitOf}
 use Rattle.swh_fastcook.specs.Stream.{IsCommit}
 use Rattle.swh_fastcook.proofs.Kids.{directory_in, parents_in}

@@ -1,7 +1,7 @@
 use Rattle.std.proofs.Common.{[], refl}
 use Rattle.swh_postorder.proofs.Orders.{order_are}
-use Rattle.swh_written.specs.Held.{kept}
-use Rattle.swh_written.proofs.Pieces.{front_none}
+use Rattle.swh_fastwrite.specs.Held.{kept}
+use Rattle.swh_fastwrite.proofs.Pieces.{front_none}
 use Rattle.swh_fastcook.specs.Stream.{IsStreamText}
 use Rattle.swh_fastcook.proofs.StreamTexts.{first_line, objects_broke, stream_wrote}
 use Rattle.swh_fastcook.proofs.Texts.{pushed, stopped_some}

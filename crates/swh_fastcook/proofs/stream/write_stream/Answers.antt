@@ -1,7 +1,7 @@
 use Rattle.std.proofs.Common.{List, ℕ, subst}
 use Rattle.std.specs.Prelude.{⊤}
 use Rattle.std.proofs.lemmas.Result.{MatchResult-from_err}
-use Rattle.swh_written.specs.Held.{kept}
+use Rattle.swh_fastwrite.specs.Held.{kept}
 use Rattle.swh_fastcook.specs.Stream.{IsStreamText}
 use Rattle.swh_fastcook.proofs.StreamTexts.{one_stream, all_taken, rest_broke}
 use Rattle.swh_fastcook.proofs.stream.write_stream.Goals as goal

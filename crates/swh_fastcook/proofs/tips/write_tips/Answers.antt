@@ -7,7 +7,7 @@ use Rattle.swh_snpfmt.specs.declared.branch.SpelledBranch.{SpelledBranch}
 use Rattle.swh_snpfmt.specs.declared.branch.SpelledTarget.TheVariants.{Object}
 use Rattle.swh_snpfmt.specs.Branches.{branch_of, branches_in_body}
 use Rattle.swh_graph.proofs.Lists.{in_map}
-use Rattle.swh_written.specs.Held.{kept, Goes}
+use Rattle.swh_fastwrite.specs.Held.{kept, Goes}
 use Rattle.swh_fastcook.specs.Stream.{tips_text}
 use Rattle.swh_fastcook.proofs.Lines.{tip_of, tips_are, tips_stopped, tips_unsettled, tips_more}
 use Rattle.swh_fastcook.proofs.Texts.{settled, stopped}

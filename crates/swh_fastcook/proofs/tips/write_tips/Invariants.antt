@@ -1,6 +1,6 @@
 use Rattle.std.proofs.Common.{◌≡◌, take}
 use Rattle.std.specs.List.{flat_map}
-use Rattle.swh_written.specs.Held.{Goes, kept}
+use Rattle.swh_fastwrite.specs.Held.{Goes, kept}
 use Rattle.swh_fastcook.proofs.Lines.{tip_of}
 use Rattle.swh_fastcook.proofs.tips.write_tips.Given as goal
 

@@ -1,5 +1,5 @@
 use Rattle.std.proofs.Common.{ℕ, List, Contains, sym, subst}
-use Rattle.swh_pieces.proofs.Middle.{in_middle}
+use Rattle.swh_base.proofs.Middle.{in_middle}
 use Rattle.swh_fastlex.proofs.path.is_component.Goals as goal
 
 pub returns-in-Some : goal.returns-in-Some

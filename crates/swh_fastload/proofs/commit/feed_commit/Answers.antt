@@ -8,7 +8,7 @@ use Rattle.swh_forest.specs.Roots.{IsBelow}
 use Rattle.swh_fastmeaning.specs.Commands.{revision_parts}
 use Rattle.swh_fastload.specs.Committing.{GivesCommit, commit_made, rest_of}
 use Rattle.swh_fastmeaning.specs.Parting.{stock_of, ExplainsBody}
-use Rattle.swh_made.specs.Giving.{AreReady}
+use Rattle.swh_dedup.specs.Giving.{AreReady}
 use Rattle.swh_fastload.proofs.ParentsFound.{first_among}
 use Rattle.swh_fastload.proofs.CommitsLed.{body_good, all_ready, commit_refused, commit_leads}
 use Rattle.swh_fastload.proofs.commit.feed_commit.Goals as goal

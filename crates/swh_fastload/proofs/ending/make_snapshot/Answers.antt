@@ -1,7 +1,7 @@
 use Rattle.std.proofs.Common.{◌≡◌, ◌≤◌, inl, map, length, refl, sym, ap, ◌∙◌, subst, arith}
 use Rattle.std.specs.Option.{option_copied}
 use Rattle.swh_base.specs.Snapshot.{AreBranches, snapshot_text}
-use Rattle.swh_made.specs.Making.{made_from, object_of}
+use Rattle.swh_dedup.specs.Making.{made_from, object_of}
 use Rattle.swh_fastmeaning.proofs.SnapshotKids.{snapshot_good}
 use Rattle.swh_model.specs.Meaning.{with_head}
 use Rattle.swh_fastmeaning.specs.Snapshots.{tip_branch, refs_of, snapshot_of}

@@ -3,9 +3,9 @@ use Rattle.std.proofs.lemmas.Result.{err_from_is_err_and}
 use Rattle.swh_base.specs.declared.kind.Kind.TheVariants.{Release}
 use Rattle.swh_base.specs.Manifest.{IsWellFormed}
 use Rattle.swh_fastmeaning.specs.Commands.{release_parts}
-use Rattle.swh_made.specs.Making.{object_of}
+use Rattle.swh_dedup.specs.Making.{object_of}
 use Rattle.swh_fastmeaning.specs.Stock.{GivesOwn}
-use Rattle.swh_made.specs.Giving.{IsReady}
+use Rattle.swh_dedup.specs.Giving.{IsReady}
 use Rattle.swh_fastmeaning.specs.Tips.{aim_of}
 use Rattle.swh_fastmeaning.specs.Parting.{stock_of, ExplainsBody}
 use Rattle.swh_fastmeaning.proofs.AimForms.{object_among}

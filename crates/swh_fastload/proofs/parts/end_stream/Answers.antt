@@ -1,7 +1,7 @@
 use Rattle.std.proofs.Common.{[], ◌++◌, sym, ap, subst}
 use Rattle.std.specs.Option.{option_copied}
 use Rattle.swh_base.specs.declared.name.Name.{Name}
-use Rattle.swh_made.specs.Giving.{AreNew}
+use Rattle.swh_dedup.specs.Giving.{AreNew}
 use Rattle.swh_fastload.specs.Reading.{BreaksSo, IsQuiet}
 use Rattle.swh_fastload.proofs.Meanings.{means_all, reaches_whole, ends_new, end_breaks, quiet}
 use Rattle.swh_fastload.proofs.Givings.{one_last}

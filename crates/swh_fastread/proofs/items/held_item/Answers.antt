@@ -2,7 +2,7 @@ use Rattle.std.proofs.Common.{refl, arith, ◌≡◌, sym, ap, ◌∙◌, subst,
 use Rattle.std.proofs.lemmas.Result.{err_from_is_err_and}
 use Rattle.swh_fastrows.specs.declared.fail.ReadFail.TheVariants.{ReadFault as SourceFailed}
 use Rattle.swh_fastrows.specs.Explains.{line_refusal}
-use Rattle.swh_fastrows.specs.Places.{Place}
+use Rattle.swh_fastrows.specs.Places.{ReaderState}
 use Rattle.swh_fastgrammar.specs.Grammar.Item.{Promise as Promises, Nothing as Silent}
 use Rattle.swh_fastread.specs.Steps.{Whole}
 use Rattle.swh_fastrows.specs.Failing.{MayFail}
@@ -35,12 +35,12 @@ returns-in_ok-read_tag-in-Tag-clause-item g c = λ told p. c.in_ok-read_tag-in-T
 pub returns-in-Promise-clause-item : goal.returns-in-Promise-clause-item
 returns-in-Promise-clause-item g c = λ told p.
     let is = rw c.in-Promise.is at c.in_ok-item_line.ensures in
-    subst (λ (b : Place). Whole c.args.rows.now b Promises) (sym c.take.ensures) (promise_taken c.args.rows.now c.line.result.now c.requires.next c.line.ensures is)
+    subst (λ (b : ReaderState). Whole c.args.rows.now b Promises) (sym c.take.ensures) (promise_taken c.args.rows.now c.line.result.now c.requires.next c.line.ensures is)
 
 pub returns-in-Nothing-clause-item : goal.returns-in-Nothing-clause-item
 returns-in-Nothing-clause-item g c = λ told p.
     let is = rw c.in-Nothing.is at c.in_ok-item_line.ensures in
-    subst (λ (b : Place). Whole c.args.rows.now b Silent) (sym c.take-in-Nothing.ensures) (silent_taken c.args.rows.now c.line.result.now c.requires.next c.line.ensures is)
+    subst (λ (b : ReaderState). Whole c.args.rows.now b Silent) (sym c.take-in-Nothing.ensures) (silent_taken c.args.rows.now c.line.result.now c.requires.next c.line.ensures is)
 
 pub returns-in-Done-clause-item : goal.returns-in-Done-clause-item
 returns-in-Done-clause-item g c = λ told p.

@@ -4,7 +4,7 @@ use Rattle.swh_fastgrammar.specs.declared.command.Commitish.{Commitish}
 use Rattle.swh_fastgrammar.specs.declared.command.Start.TheVariants.{NoTip, Of}
 use Rattle.swh_fastrows.specs.Explains.{Reads}
 use Rattle.swh_fastgrammar.specs.Grammar.{target}
-use Rattle.swh_fastrows.specs.Places.{Place}
+use Rattle.swh_fastrows.specs.Places.{ReaderState}
 use Rattle.swh_fastlines.proofs.LongRefs.{long_names_none}
 use Rattle.swh_fastread.proofs.Resets.{absent_end, absent_line, no_tip, some_tip, never_target, not_so, so}
 use Rattle.swh_fastread.proofs.reset.reset_target.Goals as goal
@@ -17,7 +17,7 @@ returns-in_default-clause-target g c = λ told. absent_line c.args.rows.now c.ne
 
 pub returns-then-is_zeros-clause-target : goal.returns-then-is_zeros-clause-target
 returns-then-is_zeros-clause-target g c = λ told.
-    subst (λ (p : Place). Reads target c.args.rows.now p NoTip) (sym c.take.ensures)
+    subst (λ (p : ReaderState). Reads target c.args.rows.now p NoTip) (sym c.take.ensures)
     (no_tip c.args.rows.now c.next_line.new.rows c.line.result.now c.in-Some.text.now (c.in_ok-next_line.ensures.took told) (c.in_ok-next_line.ensures.line c.if-not-branch.false) c.line.ensures c.in-Some.ensures.some (so c.is_zeros.result c.is_zeros.ensures.0 c.if-is_zeros.true))
 
 pub returns-in-Over-clause-target : goal.returns-in-Over-clause-target
@@ -36,5 +36,5 @@ pub returns-clause-target : goal.returns-clause-target
 returns-clause-target g c = λ told.
     let is = rw c.in-Is.is at c.in_ok-commit.ensures in
     let v : At Commitish = record { at = c.at-at.result; it = c.in-Is.commit } in
-    subst (λ (p : Place). Reads target c.args.rows.now p (Of v)) (sym c.take-2.ensures)
+    subst (λ (p : ReaderState). Reads target c.args.rows.now p (Of v)) (sym c.take-2.ensures)
     (some_tip c.args.rows.now c.next_line.new.rows c.line.result.now c.in-Some.text.now v (c.in_ok-next_line.ensures.took told) (c.in_ok-next_line.ensures.line c.if-not-branch.false) c.line.ensures c.in-Some.ensures.some is.0 (not_so c.is_zeros.result c.is_zeros.ensures.1 c.if-is_zeros.false) c.at-at.ensures)

@@ -3,7 +3,7 @@ use Rattle.swh_fastgrammar.specs.Word.{NamesCommit}
 use Rattle.swh_fastgrammar.specs.declared.command.At.{At}
 use Rattle.swh_fastgrammar.specs.declared.command.Commitish.{Commitish}
 use Rattle.swh_fastgrammar.proofs.Items.{merge}
-use Rattle.swh_fastrows.specs.Places.{Place, Part}
+use Rattle.swh_fastrows.specs.Places.{ReaderState, Part}
 use Rattle.swh_fastread.specs.Tail.{ReadsSome}
 use Rattle.swh_fastrows.proofs.Joins.{took_none}
 use Rattle.swh_fastrows.proofs.NextLines.{part_placed}
@@ -21,13 +21,13 @@ merges-preserved g c = record {
       let v : At Commitish = record { at = c.at-at.result; it = c.in-Some.commit } in
       let p = part_placed (codes "merge ") NamesCommit c.merges.rows c.merges.rows c.line.result.now said.0 c.in-Some.commit v (took_none c.merges.rows) (c.merges.invariant.line c.merges-test.true) c.line.ensures refl said.1 said.2 c.at-at.ensures refl in
       let items : c.push.new.self.items ≡ c.merges.merges.items ++ v ∷ [] = c.in_ok-push.ensures.items in
-      subst (ReadsSome merge c.args.rows.now c.next_line.new.rows) (sym items) (some_more merge c.args.rows.now c.merges.rows c.take.new.self c.next_line.new.rows c.merges.merges.items v (c.merges.invariant.some told) (subst (λ (p : Place). Part merge c.merges.rows p v) (sym c.take.ensures) p) (c.in_ok-more.ensures.took told));
+      subst (ReadsSome merge c.args.rows.now c.next_line.new.rows) (sym items) (some_more merge c.args.rows.now c.merges.rows c.take.new.self c.next_line.new.rows c.merges.merges.items v (c.merges.invariant.some told) (subst (λ (p : ReaderState). Part merge c.merges.rows p v) (sym c.take.ensures) p) (c.in_ok-more.ensures.took told));
   line = c.in_ok-more.ensures.line;
   end = c.in_ok-more.ensures.end;
   none = λ e. absurd (not_both c.merges.more c.merges-test.true (c.merges.invariant.none e).0);
-  same_path = c.next_line.ensures.on.same_path ∙ ap (λ (p : Place). p.path) c.take.ensures ∙ c.merges.invariant.same_path;
-  onward = omega (arith, c.next_line.ensures.onward, ap (λ (p : Place). p.at) c.take.ensures, c.merges.invariant.onward);
-  quiet = c.in_ok-more.ensures.on.quiet (λ h. cc) ∙ ap (λ (p : Place). p.faults) c.take.ensures ∙ c.merges.invariant.quiet;
+  same_path = c.next_line.ensures.on.same_path ∙ ap (λ (p : ReaderState). p.path) c.take.ensures ∙ c.merges.invariant.same_path;
+  onward = omega (arith, c.next_line.ensures.onward, ap (λ (p : ReaderState). p.at) c.take.ensures, c.merges.invariant.onward);
+  quiet = c.in_ok-more.ensures.on.quiet (λ h. cc) ∙ ap (λ (p : ReaderState). p.faults) c.take.ensures ∙ c.merges.invariant.quiet;
 }
 
 pub returns-clause-merges : goal.returns-clause-merges

@@ -1,6 +1,6 @@
 use Rattle.std.proofs.Common.{rules, codes, refl, subst, sym}
 use Rattle.swh_fastgrammar.specs.Grammar.{line}
-use Rattle.swh_fastrows.specs.Places.{Place, Part}
+use Rattle.swh_fastrows.specs.Places.{ReaderState, Part}
 use Rattle.swh_fastgrammar.specs.Word.{IsMark}
 use Rattle.swh_fastrows.proofs.NextLines.{lacks_end, lacks_line, part_line}
 use Rattle.swh_fastrows.proofs.optional.optional_mark.Goals as goal
@@ -14,5 +14,5 @@ returns-in_default-clause-part g c = λ told. lacks_line (codes "mark :") IsMark
 pub returns-clause-part : goal.returns-clause-part
 returns-clause-part g c = λ told.
     let some = c.in-Some.ensures.some in
-    subst (λ (p : Place). Part (line (codes "mark :") IsMark) c.args.rows.now p c.in-Some.mark) (sym c.take.ensures)
+    subst (λ (p : ReaderState). Part (line (codes "mark :") IsMark) c.args.rows.now p c.in-Some.mark) (sym c.take.ensures)
     (part_line (codes "mark :") IsMark c.args.rows.now c.peek.new.rows c.line.result.now some.0 c.in-Some.mark (c.in_ok-peek.ensures.took told) (c.in_ok-peek.ensures.line c.if-not-branch.false) c.line.ensures refl some.1 some.2)

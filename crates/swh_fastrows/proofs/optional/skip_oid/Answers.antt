@@ -1,6 +1,6 @@
 use Rattle.std.proofs.Common.{rules, codes, refl, subst, sym}
 use Rattle.swh_fastgrammar.specs.Grammar.{anything, oid}
-use Rattle.swh_fastrows.specs.Places.{Place, Part}
+use Rattle.swh_fastrows.specs.Places.{ReaderState, Part}
 use Rattle.swh_fastrows.proofs.NextLines.{lacks_end, lacks_line, part_line}
 use Rattle.swh_fastrows.proofs.optional.skip_oid.Goals as goal
 
@@ -10,7 +10,7 @@ returns-then-not-branch-clause-part g c = λ told. lacks_end oid c.args.rows.now
 pub returns-clause-part : goal.returns-clause-part
 returns-clause-part g c = λ told.
     let some = c.in-Some.ensures.some in
-    subst (λ (p : Place). Part oid c.args.rows.now p tt) (sym c.take.ensures)
+    subst (λ (p : ReaderState). Part oid c.args.rows.now p tt) (sym c.take.ensures)
     (part_line (codes "original-oid ") anything c.args.rows.now c.peek.new.rows c.line.result.now c.in-Some.field-0.now tt (c.in_ok-peek.ensures.took told) (c.in_ok-peek.ensures.line c.if-not-branch.false) c.line.ensures refl some tt)
 
 pub returns-in_default-clause-part : goal.returns-in_default-clause-part

@@ -4,9 +4,9 @@ use Rattle.swh_base.specs.declared.name.Name.{Name}
 use Rattle.swh_base.specs.declared.kind.Kind.{Kind}
 use Rattle.swh_base.specs.declared.kind.Kind.TheVariants.{Directory}
 use Rattle.swh_base.specs.contracts.kind.Kind.{the_type}
+use Rattle.swh_base.proofs.Elementary.{none_in}
 use Rattle.swh_graph.specs.Root.{HasRootOf}
 use denote.Enum.Bare.{sameb}
-use Rattle.swh_graph.proofs.Lists.{none_in}
 use Rattle.swh_graph.proofs.Trails.{trail_starts, trail_goes_on}
 use Rattle.swh_graph.proofs.RootTrails.{no_root_in_circle, no_root_at_end}
 use Rattle.swh_graph.proofs.roots.root_of.Goals as goal

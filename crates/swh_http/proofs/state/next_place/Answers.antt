@@ -1,5 +1,5 @@
 use Rattle.std.proofs.Common.{ℕ, List, ◌∙◌, sym, ap}
-use Rattle.swh_http.specs.Place.{place_of, advance}
+use Rattle.swh_http.specs.HeadState.{place_of, advance}
 use Rattle.swh_http.proofs.Turns.{place-push, within}
 use Rattle.swh_http.proofs.state.next_place.Goals as goal
 

@@ -1,6 +1,6 @@
 use Rattle.std.proofs.Common.{ℕ, List, ◌∷◌, [], ap, sym, ◌∙◌, arith, subst, get_or, length}
 use Rattle.std.proofs.lemmas.List.{length-append}
-use Rattle.swh_http.specs.Place.{place_of}
+use Rattle.swh_http.specs.HeadState.{place_of}
 use Rattle.swh_http.specs.Turn.{GoesAt}
 use Rattle.swh_http.proofs.Ends.{whole-head}
 use Rattle.swh_http.proofs.Turns.{goes-more, held-more, refused-broken, refused-long}

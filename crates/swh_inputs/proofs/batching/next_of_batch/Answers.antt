@@ -1,6 +1,6 @@
 use Rattle.std.proofs.Common.{◌≡◌, Some, None, Ok, sym, ap, ◌∙◌}
 use Rattle.swh_outside.specs.Views.{sources}
-use Rattle.swh_walk.specs.declared.parts.Next.TheVariants as next
+use Rattle.swh_ingest.specs.declared.parts.Next.TheVariants as next
 use Rattle.swh_inputs.specs.declared.bad.InputFault.TheVariants.{ReadFault}
 use Rattle.swh_inputs.proofs.Batchings.{off_quiet, told_next}
 use Rattle.swh_inputs.proofs.batching.next_of_batch.Goals as goal

@@ -1,5 +1,5 @@
 use Rattle.std.proofs.Common.{rules, ◌≡◌, ◌≢◌, List, [], ◌∷◌, ◌++◌, sym, subst}
-use Rattle.swh_pieces.proofs.Lasts.{map_end}
+use Rattle.swh_base.proofs.Lasts.{map_end}
 use Rattle.swh_jobs.specs.Job.{Job}
 use Rattle.swh_jobs.specs.JobFile.{AreJobs}
 use Rattle.swh_jobs.specs.Reading.{AreOrigins, IsLeft}

@@ -1,7 +1,7 @@
 use Rattle.swh_base.specs.declared.visit.VisitKind.TheVariants.{Batch}
 use Rattle.swh_outside.specs.Views.{disks, sources}
 use Rattle.swh_outside.specs.declared.fault.Opened.TheVariants.{Found as Here}
-use Rattle.swh_walk.specs.Owning.{attempt}
+use Rattle.swh_ingest.specs.Owning.{attempt}
 use Rattle.swh_inputs.specs.Parts.{folders, parts}
 use Rattle.swh_inputs.specs.declared.input.Input.TheVariants.{Batch as BatchPair}
 use Rattle.swh_loader.proofs.Outcomes.{none_begun}

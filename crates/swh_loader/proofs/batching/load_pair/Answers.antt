@@ -5,8 +5,8 @@ use Rattle.swh_outside.specs.Views.{disks, sources}
 use Rattle.swh_outside.specs.declared.fault.Opened.TheVariants.{Found as Here}
 use Rattle.swh_batchread.specs.Giving.{GoesOn}
 use Rattle.swh_batchread.proofs.Givings.{stands_first}
-use Rattle.swh_walk.specs.Owning.{attempt}
-use Rattle.swh_walk.specs.declared.end.LoadFault.{LoadFault}
+use Rattle.swh_ingest.specs.Owning.{attempt}
+use Rattle.swh_ingest.specs.declared.end.LoadFault.{LoadFault}
 use Rattle.swh_inputs.specs.Batching.{AreQuiet, IsNextOfBatch}
 use Rattle.swh_inputs.specs.Parts.{folders, parts}
 use Rattle.swh_inputs.specs.declared.batching.BatchInput.{BatchInput}

@@ -1,8 +1,8 @@
 use Rattle.std.proofs.Common.{◌≡◌, Result, sym, subst}
 use Rattle.swh_outside.specs.Views.{disks, sources}
-use Rattle.swh_walk.specs.Owning.{attempt}
-use Rattle.swh_walk.specs.declared.end.LoadFault.{LoadFault}
-use Rattle.swh_walk.specs.declared.input.Input.TheVariants as given
+use Rattle.swh_ingest.specs.Owning.{attempt}
+use Rattle.swh_ingest.specs.declared.end.LoadFault.{LoadFault}
+use Rattle.swh_ingest.specs.declared.input.Input.TheVariants as given
 use Rattle.swh_inputs.specs.Opening.{kind_of}
 use Rattle.swh_inputs.specs.Parts.{IsQuiet, IsSameInput, folders, parts}
 use Rattle.swh_inputs.specs.Reading.{IsRead}

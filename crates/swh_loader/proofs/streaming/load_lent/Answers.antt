@@ -4,8 +4,8 @@ use Rattle.swh_base.specs.declared.visit.VisitKind.TheVariants.{Fast}
 use Rattle.swh_outside.specs.Views.{disks, sources}
 use Rattle.swh_outside.specs.declared.fault.Opened.TheVariants.{Found as Here}
 use Rattle.swh_fastload.specs.Giving.{GoesOn, StreamState}
-use Rattle.swh_walk.specs.Owning.{attempt}
-use Rattle.swh_walk.specs.declared.end.LoadFault.{LoadFault}
+use Rattle.swh_ingest.specs.Owning.{attempt}
+use Rattle.swh_ingest.specs.declared.end.LoadFault.{LoadFault}
 use Rattle.swh_inputs.specs.Parts.{folders, parts}
 use Rattle.swh_inputs.specs.Streaming.{IsNextOf}
 use Rattle.swh_inputs.specs.declared.input.Input.TheVariants.{Fast as FastInput}

@@ -4,7 +4,7 @@ use Rattle.swh_base.specs.Directory.{DirectoryEntry}
 use Rattle.swh_dirfmt.specs.declared.entry.SpelledEntry.{SpelledEntry}
 use Rattle.swh_dirfmt.specs.Entries.{entries_in_body}
 use Rattle.swh_graph.specs.Path.{directory_name}
-use Rattle.swh_heldpaths.proofs.Trees.{folder_kid}
+use Rattle.swh_pathwalk.proofs.Trees.{folder_kid}
 use Rattle.swh_pathsums.specs.Tallies.{AreRowsOver}
 use Rattle.swh_pathsums.proofs.Rows.{rows_over}
 use Rattle.swh_pathsums.proofs.sums.directory_tally.Goals as goal

@@ -1,5 +1,5 @@
 use Rattle.swh_graph.specs.Path.{directory_name}
-use Rattle.swh_heldpaths.proofs.Walks.{not_missing}
+use Rattle.swh_pathwalk.proofs.Walks.{not_missing}
 use Rattle.swh_pathsums.proofs.sums.entries_at.Goals as goal
 
 pub unreachable-requires : goal.unreachable-requires

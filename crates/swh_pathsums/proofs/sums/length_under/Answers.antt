@@ -1,9 +1,7 @@
-use Rattle.std.proofs.Common.{◌≡◌, ◌∙◌, ℕ, Option, Some, None, sym, subst}
+use Rattle.std.proofs.Common.{◌≡◌, ◌∙◌, ℕ, Option, Some, sym, subst}
+use Rattle.swh_base.proofs.Elementary.{none_some}
 use Rattle.swh_pathsums.specs.Lengths.{IsLengthUnder}
 use Rattle.swh_pathsums.proofs.sums.length_under.Goals as goal
-
-none_some : (n : ℕ) → None ≡ Some n → ⊥
-none_some n e = cc
 
 same_some : (m n : ℕ) → Some m ≡ Some n → m ≡ n
 same_some m n e = cc

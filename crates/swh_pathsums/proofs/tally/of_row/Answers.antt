@@ -1,6 +1,6 @@
 use Rattle.std.proofs.Common.{◌≡◌, ℕ, length, inl, refl, ap, ◌∙◌}
 use Rattle.std.specs.List.{flat_map, list_any}
-use Rattle.swh_fasttext.specs.Quoted.{is_quoted_byte, quoted_byte}
+use Rattle.swh_fastwrite.specs.Quoted.{is_quoted_byte, quoted_byte}
 use Rattle.swh_pathsums.specs.Tallies.{one_if}
 use Rattle.swh_pathsums.proofs.RowSums.{tallies_one}
 use Rattle.swh_pathsums.proofs.tally.of_row.Goals as goal

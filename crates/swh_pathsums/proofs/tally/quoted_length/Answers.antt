@@ -1,8 +1,8 @@
 use Rattle.std.proofs.Common.{◌≡◌, ℕ, ◌+◌, List, ◌++◌, length, inl, take, get_or, refl, sym, ap, ◌∙◌, subst, length-append}
 use Rattle.std.specs.List.{flat_map}
 use Rattle.std.proofs.lemmas.List.{take_all}
-use Rattle.swh_fasttext.specs.Quoted.{quoted_byte}
-use Rattle.swh_fasttext.proofs.Quotes.{quoted_more}
+use Rattle.swh_fastwrite.specs.Quoted.{quoted_byte}
+use Rattle.swh_fastwrite.proofs.Quotes.{quoted_more}
 use Rattle.swh_pathsums.specs.Lengths.{IsUpTo}
 use Rattle.swh_pathsums.proofs.tally.quoted_length.Goals as goal
 

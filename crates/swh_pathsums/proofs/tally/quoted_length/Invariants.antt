@@ -1,6 +1,6 @@
 use Rattle.std.proofs.Common.{length, take}
 use Rattle.std.specs.List.{flat_map}
-use Rattle.swh_fasttext.specs.Quoted.{quoted_byte}
+use Rattle.swh_fastwrite.specs.Quoted.{quoted_byte}
 use Rattle.swh_pathsums.specs.Lengths.{IsUpTo}
 use Rattle.swh_pathsums.proofs.tally.quoted_length.Given as goal
 

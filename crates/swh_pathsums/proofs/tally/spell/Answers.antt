@@ -1,6 +1,6 @@
 use Rattle.std.proofs.Common.{◌≡◌, false, true, ℕ, List, length, inl, refl, sym, ap, ◌∙◌, subst}
 use Rattle.std.specs.List.{list_any}
-use Rattle.swh_fasttext.specs.Quoted.{is_quoted_byte}
+use Rattle.swh_fastwrite.specs.Quoted.{is_quoted_byte}
 use Rattle.swh_pathsums.proofs.RowSums.{plain_bytes}
 use Rattle.swh_pathsums.proofs.tally.spell.Goals as goal
 

@@ -5,7 +5,7 @@ use Rattle.swh_replay.specs.Replay.{archive_of}
 use Rattle.swh_dircook.specs.Made.{yarded}
 use Rattle.swh_program.specs.CookCommand.{cook_line}
 use Rattle.swh_program.specs.Yards.{Yards, yards}
-use Rattle.swh_answers.specs.declared.answer.Ending.TheVariants as ending
+use Rattle.swh_exit.specs.declared.answer.Ending.TheVariants as ending
 use Rattle.swh_program.proofs.Cooked.{line_inside, line_undamaged, told_cooked, leaves_cooked, told_uncooked, leaves_uncooked, uncooked_inside, uncooked_undamaged}
 use Rattle.swh_program.proofs.cook_command.tell_cook.Goals as goal
 

@@ -4,10 +4,10 @@ use Rattle.swh_segment.specs.declared.fault.MakeFault.TheVariants.{Made as Befor
 use Rattle.swh_outside.specs.Files.{Files, files_of}
 use Rattle.swh_segment.specs.Making.{IsMade, IsEmptyArchive}
 use Rattle.swh_segment.proofs.Crash.{made_empty}
-use Rattle.swh_answers.specs.declared.answer.Answer.TheVariants.{Made, AlreadyMade, OutsideDisk, Memory}
+use Rattle.swh_exit.specs.declared.answer.Answer.TheVariants.{Made, AlreadyMade, OutsideDisk, Memory}
 use Rattle.swh_program.proofs.Ends.{ends_at}
 use Rattle.swh_program.proofs.Archived.{not_both}
-use Rattle.swh_answers.proofs.Owned.{at_err, keeps_same}
+use Rattle.swh_exit.proofs.Owned.{at_err, keeps_same}
 use Rattle.swh_program.proofs.Owned.{sees_at, keeps_making}
 use Rattle.swh_program.proofs.init_command.init.Goals as goal
 

@@ -1,7 +1,7 @@
 use Rattle.std.proofs.Common.{ap, sym, ◌∙◌}
 use Rattle.std.specs.Ordering.{is_lt}
+use Rattle.swh_base.proofs.Elementary.{less_from}
 use Rattle.swh_snpfmt.specs.Branches.{branch_of}
-use Rattle.swh_pieces.proofs.Lasts.{less_from}
 use Rattle.swh_snpfmt.proofs.Follows.{after_last, last-before}
 use Rattle.swh_snpfmt.proofs.reading.is_after.Goals as goal
 

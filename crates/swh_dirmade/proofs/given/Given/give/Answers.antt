@@ -1,7 +1,7 @@
 use Rattle.std.proofs.Common.{List, [], ◌∷◌, ◌++◌, Contains, sym, ap, ◌∙◌, subst}
 use Rattle.std.specs.List.{AllByRecursion}
 use Rattle.swh_base.specs.declared.entry.Entry.{Entry}
-use Rattle.swh_made.specs.Making.{made, names_of_made}
+use Rattle.swh_dedup.specs.Making.{made, names_of_made}
 use Rattle.swh_dirmade.proofs.Givens.{given_new}
 use Rattle.swh_dirmade.proofs.given.Given.give.Goals as goal
 

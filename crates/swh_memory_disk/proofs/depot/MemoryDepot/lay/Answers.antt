@@ -2,7 +2,7 @@ use Rattle.std.proofs.Common.{rules, ◌≡◌, List, length, ◌∙◌, ap, ari
 use Rattle.std.specs.List.{position_or_len}
 use Rattle.std.proofs.lemmas.List.{with_items_is}
 use Rattle.swh_memory_disk.specs.InPlace.{is_at, notes_in}
-use Rattle.swh_memory_disk.specs.declared.place.Place.{Place}
+use Rattle.swh_memory_disk.specs.declared.depot_file.DepotFile.{DepotFile}
 use Rattle.swh_memory_disk.proofs.depot.MemoryDepot.lay.Goals as goal
 
 pub returns-clause-other_notes : goal.returns-clause-other_notes
@@ -13,9 +13,9 @@ returns-clause-other_notes c =
     let value : c.deref_mut.result.now ≡ self.places.items = search rules in
     record {
       at_other = λ d n other.
-          ap (λ (ps : List Place). notes_in self.room ps d n) items
+          ap (λ (ps : List DepotFile). notes_in self.room ps d n) items
           ∙ (c.swap_disk.ensures.other_notes self.room).at_other d n other
-          ∙ ap (λ (ps : List Place). notes_in self.room ps d n) value
+          ∙ ap (λ (ps : List DepotFile). notes_in self.room ps d n) value
           ∙ c.in_ok-i.ensures.same_notes d n;
     }
 
@@ -28,4 +28,4 @@ returns-clause-places c d n had =
     let value : c.deref_mut.result.now ≡ self.places.items = search rules in
     let position = ap (position_or_len (is_at d n)) items ∙ c.swap_disk.ensures.positions d n ∙ ap (position_or_len (is_at d n)) value in
     let all : length c.swap_disk.new.places ≡ length self.places.items = search rules in
-    omega (arith, placed, position, all, ap (λ (ps : List Place). length ps) items)
+    omega (arith, placed, position, all, ap (λ (ps : List DepotFile). length ps) items)

@@ -1,7 +1,7 @@
 use Rattle.std.proofs.Common.{rules, ◌≡◌, List, length, ◌∙◌, ap}
 use Rattle.std.proofs.lemmas.List.{with_items_is}
 use Rattle.swh_memory_disk.specs.InPlace.{notes_in}
-use Rattle.swh_memory_disk.specs.declared.place.Place.{Place}
+use Rattle.swh_memory_disk.specs.declared.depot_file.DepotFile.{DepotFile}
 use Rattle.swh_memory_disk.proofs.depot.MemoryDepotDepot.open.Goals as goal
 
 pub returns-clause-other_notes : goal.returns-clause-other_notes
@@ -12,8 +12,8 @@ returns-clause-other_notes c =
     let value : c.deref_mut.result.now ≡ self.places.items = search rules in
     record {
       at_other = λ d n other.
-          ap (λ (ps : List Place). notes_in self.room ps d n) items
+          ap (λ (ps : List DepotFile). notes_in self.room ps d n) items
           ∙ (c.swap_disk.ensures.other_notes self.room).at_other d n other
-          ∙ ap (λ (ps : List Place). notes_in self.room ps d n) value
+          ∙ ap (λ (ps : List DepotFile). notes_in self.room ps d n) value
           ∙ c.in-Ok.ensures.same_notes d n;
     }

@@ -1,7 +1,7 @@
 use Rattle.std.proofs.Common.{inr, arith}
 use Rattle.swh_outside.specs.Views.{disks}
 use Rattle.swh_jobs.specs.Answers.{owned_jobs}
-use Rattle.swh_answers.specs.Archives.{archive_at}
+use Rattle.swh_exit.specs.Archives.{archive_at}
 use Rattle.swh_program.proofs.Loads.{run_files, run_undamaged, refused_unloaded}
 use Rattle.swh_program.proofs.Owned.{keeps_by_end}
 use Rattle.swh_program.proofs.outside.Outside.load_jobs.Goals as goal

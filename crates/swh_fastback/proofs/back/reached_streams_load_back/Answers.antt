@@ -1,5 +1,0 @@
-use Rattle.swh_fastback.proofs.Reached.{reached_back}
-use Rattle.swh_fastback.proofs.back.reached_streams_load_back.Goals as goal
-
-pub returns : goal.returns
-returns c = reached_back

@@ -1,5 +1,0 @@
-use Rattle.swh_fasttext.proofs.Quotes.{names_again}
-use Rattle.swh_fasttext.proofs.laws.paths_are_read_again.Goals as goal
-
-pub returns : goal.returns
-returns c = names_again

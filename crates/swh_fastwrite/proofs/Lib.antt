@@ -1,0 +1,3 @@
+pub mod Modes
+pub mod Quotes
+pub mod Pieces

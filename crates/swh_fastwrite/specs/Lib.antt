@@ -1,0 +1,5 @@
+pub mod Counts
+pub mod Held
+pub mod Quoted
+pub mod Sinks
+pub mod Text

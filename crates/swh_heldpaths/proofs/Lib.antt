@@ -1,4 +1,0 @@
-pub mod Preceding
-pub mod Trees
-pub mod Rows
-pub mod Walks

@@ -1,0 +1,12 @@
+pub mod Growing
+pub mod Steps
+pub mod Batches
+pub mod Waiting
+pub mod Marks
+pub mod Closes
+pub mod Ends
+pub mod Loads
+pub mod InHand
+pub mod Owned
+pub mod SoFar
+pub mod Once

@@ -1,7 +1,0 @@
-use Rattle.std.proofs.Common.{length, take}
-use Rattle.swh_made.specs.Making.{made}
-use Rattle.swh_made.specs.Giving.{Gives}
-use Rattle.swh_made.proofs.giving.give_all.Given as goal
-
-abbrev pub invariant-loop-object : goal.invariant-loop-object
-invariant-loop-object g l = Gives g.N.Namer.id_of (made (take (length l.yielded) l.fn.objects.items)) l.fn.seen l.seen l.out.items

@@ -1,2 +1,0 @@
-pub mod WayCounts
-pub mod WaySteps
