@@ -1,13 +1,23 @@
-//! Tests of the calls over the graph of an archive: which names, entries and refusals they answer over objects that git
-//! named, over a long history, over a deep folder and
-//! over wide objects.
-//! Stands on these calls, and on the objects that tests of reading share.
+//! Tests of reading a graph, and of what cooking takes from it: paths, orders, marks, sums and what a form carries.
+//! Stands on `swh_graph`, the lower crates of cooking, and archives in memory.
 //! Nothing stands above it.
 #![tactic(auto)]
 
 #[cfg(test)]
-mod calls;
+mod carried_orders;
 #[cfg(test)]
-mod deep;
+mod cooked_texts;
 #[cfg(test)]
-mod wide;
+mod deep_graphs;
+#[cfg(test)]
+mod deep_paths;
+#[cfg(test)]
+mod graph_calls;
+#[cfg(test)]
+mod name_orders;
+#[cfg(test)]
+mod paths;
+#[cfg(test)]
+mod stream_texts;
+#[cfg(test)]
+mod wide_graphs;

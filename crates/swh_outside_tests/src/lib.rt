@@ -1,6 +1,6 @@
-//! Tests of the outside over memory: counts of faults by path, disks with what a crash leaves of them, depots, inputs
-//! and folders, yards, and disks that fall short.
-//! Stands on the outside and its fakes.
+//! Tests of the parts outside the program, those in memory and the real ones: disks, inputs, folders, yards, and how each
+//! of their calls fails.
+//! Stands on the parts in memory, on the real ones, and on `os` for what a real folder holds.
 //! Nothing stands above it.
 #![tactic(auto)]
 
@@ -18,6 +18,16 @@ mod inputs;
 mod others;
 #[cfg(test)]
 mod path_counts;
+#[cfg(test)]
+mod real_disks;
+#[cfg(test)]
+mod real_folders;
+#[cfg(test)]
+mod real_inputs;
+#[cfg(test)]
+mod real_others;
+#[cfg(test)]
+mod real_yards;
 #[cfg(test)]
 mod short;
 #[cfg(test)]

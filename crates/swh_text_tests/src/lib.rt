@@ -1,13 +1,30 @@
-//! Tests of the texts: SWHIDs, job files, the words of a run, and the streams that are made for measuring.
-//! Stands on the readers and printers of these texts.
+//! Tests of names, texts and manifests: SWHIDs, job files, words, made streams; and the bodies of directories, revisions,
+//! releases and snapshots, with their objects.
+//! Stands on the crates of these texts alone.
 //! Nothing stands above it.
 #![tactic(auto)]
 
 #[cfg(test)]
+mod body_texts;
+#[cfg(test)]
+mod body_values;
+#[cfg(test)]
+mod directories;
+#[cfg(test)]
 mod jobs;
 #[cfg(test)]
-mod streams;
+mod made_streams;
+#[cfg(test)]
+mod objects;
+#[cfg(test)]
+mod releases;
+#[cfg(test)]
+mod revisions;
+#[cfg(test)]
+mod snapshots;
 #[cfg(test)]
 mod swhids;
 #[cfg(test)]
 mod words;
+#[cfg(test)]
+mod worked_bodies;

@@ -1,5 +1,0 @@
-use Rattle.swh_model.specs.Step.{IsHistory}
-use Rattle.swh_model_tests.proofs.wished.history_of.Given as goal
-
-abbrev pub invariant-loop-row : goal.invariant-loop-row
-invariant-loop-row g l = IsHistory g.N.Namer.id_of l.history.items

@@ -1,3 +1,0 @@
-pub mod Sharing
-pub mod Shared
-pub mod Faulty
