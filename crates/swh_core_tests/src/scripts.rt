@@ -23,10 +23,12 @@ const ONGOING: Wished = Wished::Mark(ORIGIN, 1, Mark::Ongoing);
 
 /// The ledger after an opening by actor 0 and, with its gate, a visit that goes on.
 const WITH: &[u8] =
-    b"SWHARC1\n\x01O\0\0\0\x1c\0\0\0\0\x01\0\0\0\0\x3b\x9a\xca\0https://e.org/p\x01T\0\0\0\x1d\0\0\0\0\x02\0\0\0\0\0\0\0\x01\0https://e.org/p\0";
+    b"SWHARC1\n\x01O\0\0\0\x1c\0\0\0\0\x01\0\0\0\0\x3b\x9a\xca\0https://e.org/p\x01T\0\0\0\x1d\0\0\0\0\x02\0\
+\0\0\0\0\0\0\x01\0https://e.org/p\0";
 
 const WITHOUT: &[u8] =
-    b"SWHARC1\n\x01O\0\0\0\x1c\0\0\0\0\x01\0\0\0\0\x3b\x9a\xca\0https://e.org/p\0T\0\0\0\x1d\0\0\0\0\x02\0\0\0\0\0\0\0\x01\0https://e.org/p\0";
+    b"SWHARC1\n\x01O\0\0\0\x1c\0\0\0\0\x01\0\0\0\0\x3b\x9a\xca\0https://e.org/p\0T\0\0\0\x1d\0\0\0\0\x02\0\0\
+\0\0\0\0\0\x01\0https://e.org/p\0";
 
 /// The ledger within the opening by actor 1, its gate being written.
 const GATE_0: &[u8] =

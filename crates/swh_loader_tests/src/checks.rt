@@ -1,3 +1,4 @@
+// The check of a whole archive: what it counts, a body that was changed, and a disk that fails.
 use crate::changed_bodies::{Change, Changing};
 use std::alloc::Global;
 use std::test::Fail;

@@ -230,7 +230,8 @@ const FOLDERS: &[Cooked] = &[
                 ],
             ],
             statuses: &[0, 0],
-            printed: b"swh:1:dir:4b825dc642cb6eb9a060e54bf8d69288fbee4904\t-\nswh:1:dir:d8329fc1cc938780ffdd9f94e0d364e0ea74f579\t-\n",
+            printed: b"swh:1:dir:4b825dc642cb6eb9a060e54bf8d69288fbee4904\t-\n\
+swh:1:dir:d8329fc1cc938780ffdd9f94e0d364e0ea74f579\t-\n",
             leaves: None,
         },
         &[

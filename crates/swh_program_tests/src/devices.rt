@@ -182,7 +182,8 @@ const OF_LOAD: &[Stops<'static>] = &[
         from: 5,
         until: 8,
         statuses: &[4, 0],
-        printed: b"https://e.org/p\t0\tstopped\tdisk\nhttps://e.org/a\t0\tstopped\twounded\nswharc: outside disk\nobjects 0 closed 0 visits 0\n",
+        printed: b"https://e.org/p\t0\tstopped\tdisk\nhttps://e.org/a\t0\tstopped\twounded\n\
+swharc: outside disk\nobjects 0 closed 0 visits 0\n",
     },
     Stops {
         name: "a visit's opening, at its last barrier",
@@ -196,7 +197,8 @@ const OF_LOAD: &[Stops<'static>] = &[
         from: 8,
         until: 9,
         statuses: &[4, 0],
-        printed: b"https://e.org/p\t0\tstopped\tdisk\nhttps://e.org/a\t0\tstopped\twounded\nswharc: outside disk\nobjects 0 closed 0 visits 1\n",
+        printed: b"https://e.org/p\t0\tstopped\tdisk\nhttps://e.org/a\t0\tstopped\twounded\n\
+swharc: outside disk\nobjects 0 closed 0 visits 1\n",
     },
     Stops {
         name: "its first mark, and a batch up to its gate",
@@ -210,7 +212,8 @@ const OF_LOAD: &[Stops<'static>] = &[
         from: 9,
         until: 16,
         statuses: &[4, 0],
-        printed: b"https://e.org/p\t1\tstopped\tdisk\nhttps://e.org/a\t0\tstopped\twounded\nswharc: outside disk\nobjects 0 closed 0 visits 1\n",
+        printed: b"https://e.org/p\t1\tstopped\tdisk\nhttps://e.org/a\t0\tstopped\twounded\n\
+swharc: outside disk\nobjects 0 closed 0 visits 1\n",
     },
     Stops {
         name: "a batch's run",
@@ -224,7 +227,8 @@ const OF_LOAD: &[Stops<'static>] = &[
         from: 2,
         until: 4,
         statuses: &[4, 0],
-        printed: b"https://e.org/p\t1\tstopped\tdisk\nhttps://e.org/a\t0\tstopped\twounded\nswharc: outside disk\nobjects 0 closed 0 visits 1\n",
+        printed: b"https://e.org/p\t1\tstopped\tdisk\nhttps://e.org/a\t0\tstopped\twounded\n\
+swharc: outside disk\nobjects 0 closed 0 visits 1\n",
     },
     Stops {
         name: "a batch at its last barrier, and the last mark up to its gate",
@@ -238,7 +242,8 @@ const OF_LOAD: &[Stops<'static>] = &[
         from: 16,
         until: 20,
         statuses: &[4, 0],
-        printed: b"https://e.org/p\t1\tstopped\tdisk\nhttps://e.org/a\t0\tstopped\twounded\nswharc: outside disk\nobjects 4 closed 0 visits 1\n",
+        printed: b"https://e.org/p\t1\tstopped\tdisk\nhttps://e.org/a\t0\tstopped\twounded\n\
+swharc: outside disk\nobjects 4 closed 0 visits 1\n",
     },
     Stops {
         name: "the last mark, at its last barrier",
@@ -252,7 +257,8 @@ const OF_LOAD: &[Stops<'static>] = &[
         from: 20,
         until: 21,
         statuses: &[4, 0],
-        printed: b"https://e.org/p\t1\tstopped\tdisk\nhttps://e.org/a\t0\tstopped\twounded\nswharc: outside disk\nobjects 4 closed 4 visits 1\n",
+        printed: b"https://e.org/p\t1\tstopped\tdisk\nhttps://e.org/a\t0\tstopped\twounded\n\
+swharc: outside disk\nobjects 4 closed 4 visits 1\n",
     },
 ];
 

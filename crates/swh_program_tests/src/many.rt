@@ -225,7 +225,8 @@ https://e.org/p\t1\tfull\tswh:1:snp:c84749c6e433f9add637cb4d38ffa50ba21e74a9\n\
                 count: 2_000,
                 before: b"{\"name\":\"",
                 fill: 0,
-                after: b"\",\"perms\":33188,\"target\":\"c1b0730e0133447badcfd47fd144e254807b06e1\",\"type\":\"file\"},",
+                after: b"\",\"perms\":33188,\"target\":\"c1b0730e0133447badcfd47fd144e254807b06e1\",\"type\":\
+\"file\"},",
             },
             Piece::Text(
                 b"{\"name\":\"z\",\"perms\":33188,\"target\":\"c1b0730e0133447badcfd47fd144e254807b06e1\",\"type\":\"fi\

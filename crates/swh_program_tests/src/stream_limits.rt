@@ -119,7 +119,8 @@ const REFS: &[Case<'static>] = &[
         },
         runs: &[INIT, LOAD, CHECK],
         statuses: &[0, 0, 0],
-        printed: b"made\nhttps://e.org/p\t1\tfull\tswh:1:snp:d85804773b7a1ea665b4de15f610ebff7a4dfdcb\nobjects 4 closed 4 visits 1\n",
+        printed: b"made\nhttps://e.org/p\t1\tfull\tswh:1:snp:d85804773b7a1ea665b4de15f610ebff7a4dfdcb\n\
+objects 4 closed 4 visits 1\n",
         leaves: None,
     },
     Case {
@@ -163,7 +164,8 @@ const OBJECTS: &[Case<'static>] = &[
         },
         runs: &[INIT, LOAD, CHECK],
         statuses: &[0, 0, 0],
-        printed: b"made\nhttps://e.org/p\t1\tfull\tswh:1:snp:1a8893e6a86f444e8be8e7bda6cb34fb1735a00e\nobjects 5002 closed 1 visits 1\n",
+        printed: b"made\nhttps://e.org/p\t1\tfull\tswh:1:snp:1a8893e6a86f444e8be8e7bda6cb34fb1735a00e\n\
+objects 5002 closed 1 visits 1\n",
         leaves: None,
     },
     // Each row has 19 bytes. The first 4,096 contents are a batch, which is sent before the fault is met; the others wait there.
@@ -207,7 +209,8 @@ const CONTENTS: &[Case<'static>] = &[
         },
         runs: &[INIT, LOAD, CHECK],
         statuses: &[0, 0, 0],
-        printed: b"made\nhttps://e.org/p\t1\tfull\tswh:1:snp:1a8893e6a86f444e8be8e7bda6cb34fb1735a00e\nobjects 2 closed 1 visits 1\n",
+        printed: b"made\nhttps://e.org/p\t1\tfull\tswh:1:snp:1a8893e6a86f444e8be8e7bda6cb34fb1735a00e\n\
+objects 2 closed 1 visits 1\n",
         leaves: None,
     },
     Case {
@@ -250,7 +253,8 @@ const LINES: &[Case<'static>] = &[
         },
         runs: &[INIT, LOAD, CHECK],
         statuses: &[0, 0, 0],
-        printed: b"made\nhttps://e.org/p\t1\tfull\tswh:1:snp:1a8893e6a86f444e8be8e7bda6cb34fb1735a00e\nobjects 2 closed 1 visits 1\n",
+        printed: b"made\nhttps://e.org/p\t1\tfull\tswh:1:snp:1a8893e6a86f444e8be8e7bda6cb34fb1735a00e\n\
+objects 2 closed 1 visits 1\n",
         leaves: None,
     },
     Case {
@@ -295,7 +299,8 @@ const REVISIONS: &[Case<'static>] = &[
         },
         runs: &[INIT, LOAD, CHECK],
         statuses: &[0, 0, 0],
-        printed: b"made\nhttps://e.org/p\t1\tfull\tswh:1:snp:659ae981f499402519dc4e680a8d4c25a311351b\nobjects 3 closed 3 visits 1\n",
+        printed: b"made\nhttps://e.org/p\t1\tfull\tswh:1:snp:659ae981f499402519dc4e680a8d4c25a311351b\n\
+objects 3 closed 3 visits 1\n",
         leaves: None,
     },
     Case {
@@ -337,7 +342,8 @@ const RELEASES: &[Case<'static>] = &[
         },
         runs: &[INIT, LOAD, CHECK],
         statuses: &[0, 0, 0],
-        printed: b"made\nhttps://e.org/p\t1\tfull\tswh:1:snp:89b7aa756b918a0a19e6497a03a789010c796849\nobjects 5 closed 5 visits 1\n",
+        printed: b"made\nhttps://e.org/p\t1\tfull\tswh:1:snp:89b7aa756b918a0a19e6497a03a789010c796849\n\
+objects 5 closed 5 visits 1\n",
         leaves: None,
     },
     Case {
@@ -382,7 +388,8 @@ const DIRECTORIES: &[Case<'static>] = &[
         },
         runs: &[INIT, LOAD, CHECK],
         statuses: &[0, 0, 0],
-        printed: b"made\nhttps://e.org/p\t1\tfull\tswh:1:snp:f1341cd4c7166b055366b87511d12f531bbe88e7\nobjects 4 closed 4 visits 1\n",
+        printed: b"made\nhttps://e.org/p\t1\tfull\tswh:1:snp:f1341cd4c7166b055366b87511d12f531bbe88e7\n\
+objects 4 closed 4 visits 1\n",
         leaves: None,
     },
     Case {
@@ -431,7 +438,8 @@ const SNAPSHOTS: &[Case<'static>] = &[
         },
         runs: &[INIT, LOAD, CHECK],
         statuses: &[0, 0, 0],
-        printed: b"made\nhttps://e.org/p\t1\tfull\tswh:1:snp:a196b0c8528c6d0b5774020aebfd9f880895f933\nobjects 4 closed 4 visits 1\n",
+        printed: b"made\nhttps://e.org/p\t1\tfull\tswh:1:snp:a196b0c8528c6d0b5774020aebfd9f880895f933\n\
+objects 4 closed 4 visits 1\n",
         leaves: None,
     },
     Case {

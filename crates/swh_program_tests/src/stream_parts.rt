@@ -44,7 +44,8 @@ const LIMITS: &[Case<'static>] = &[
         },
         runs: &[INIT, LOAD],
         statuses: &[0, 1],
-        printed: b"made\nu1\t1\tfailed\tmodes 1\nu2\t1\tfailed\tlimit line\nu3\t1\tfailed\tmodes 1\nu4\t1\tfailed\tlimit path\n",
+        printed: b"made\nu1\t1\tfailed\tmodes 1\nu2\t1\tfailed\tlimit line\nu3\t1\tfailed\tmodes 1\n\
+u4\t1\tfailed\tlimit path\n",
         leaves: None,
     },
     // No file stands at the longest path of a folder, so that it fails.

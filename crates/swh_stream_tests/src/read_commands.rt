@@ -1,3 +1,4 @@
+// The reader of streams: worked examples, cut streams, pieces, and a source that fails.
 use std::alloc::{AllocError, Global};
 use std::process::Abort;
 use std::test::Fail;

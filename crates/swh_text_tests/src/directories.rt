@@ -98,7 +98,8 @@ static BAD: [(&[u8], u64, DirWhy); 21] = [
         DirWhy::Order,
     ),
     (
-        b"100644 a\0aaaaaaaaaaaaaaaaaaaa100644 a!\0bbbbbbbbbbbbbbbbbbbb100644 a.b\0cccccccccccccccccccc40000 a\0dddddddddddddddddddd",
+        b"100644 a\0aaaaaaaaaaaaaaaaaaaa100644 a!\0bbbbbbbbbbbbbbbbbbbb100644 a.b\0cccccccccccccccccccc40000 \
+a\0dddddddddddddddddddd",
         90,
         DirWhy::Twice,
     ),

@@ -6,7 +6,8 @@ use swh_jobs::{JobInput, JobLine, JobWhy, JobsFault, LONGEST, parse_jobs};
 
 // A CR at a line's end belongs to the path; the last LF lacks.
 const FILE: &[u8] =
-    b"fast\thttps://e.org/a\tstreams/a.fi\nfast\thttps://e.org/b c\tb c\r\ndir\td\tin\ndir\te\tin\tin.modes\nbatch\tbatch\tb\tr\nfast\t\xc3\xbc\t\xc3\xa9\trefs/heads/\xc3\xb6";
+    b"fast\thttps://e.org/a\tstreams/a.fi\nfast\thttps://e.org/b c\tb c\r\ndir\td\tin\ndir\te\tin\tin.modes\n\
+batch\tbatch\tb\tr\nfast\t\xc3\xbc\t\xc3\xa9\trefs/heads/\xc3\xb6";
 
 // The kind of an input, its path, and its head or its second path; none is written as an empty one, which no job has.
 type Parts = (VisitKind, &'static str, &'static [u8]);

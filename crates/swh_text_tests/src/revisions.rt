@@ -23,7 +23,8 @@ static GOOD: [(&[u8], usize, usize); 9] = [
         47,
     ),
     (
-        b"tree d8329fc1cc938780ffdd9f94e0d364e0ea74f579\nparent 9fe8674b111dd6eab36ed92ec3c21204d9020743\nparent 8fe8674b111dd6eab36ed92ec3c21204d9020743",
+        b"tree d8329fc1cc938780ffdd9f94e0d364e0ea74f579\nparent 9fe8674b111dd6eab36ed92ec3c21204d9020743\n\
+parent 8fe8674b111dd6eab36ed92ec3c21204d9020743",
         1,
         47,
     ),

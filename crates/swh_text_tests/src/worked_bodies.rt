@@ -50,12 +50,13 @@ committer A <a@e.org> 1000000000 +0000\nmergetag object 0c530490cf162c594c24157a
 \x20-----BEGIN PGP SIGNATURE-----\n \n iQEzBAABCAAdFiEE\n =abcd\n -----END PGP SIGNATURE-----\n\nmerge\n";
 
 // A tag of a revision.
-pub const TAG: &[u8] =
-    b"object 0c530490cf162c594c24157a0000994e71fc8515\ntype commit\ntag v1\ntagger A <a@e.org> 1000000000 +0000\n\none\n";
+pub const TAG: &[u8] = b"object 0c530490cf162c594c24157a0000994e71fc8515\ntype commit\ntag v1\n\
+tagger A <a@e.org> 1000000000 +0000\n\none\n";
 
 // A tag of that tag.
 pub const TAG_OF_TAG: &[u8] =
-    b"object 330558e4309943d7e0eaa2b15fc9fdca6a21bb22\ntype tag\ntag v1-again\ntagger A <a@e.org> 1000000000 +0000\n\nof a tag\n";
+    b"object 330558e4309943d7e0eaa2b15fc9fdca6a21bb22\ntype tag\ntag v1-again\n\
+tagger A <a@e.org> 1000000000 +0000\n\nof a tag\n";
 
 // A directory that git wrote: a file, a folder, an executable, a link with a byte from 0x80 in its name, a submodule,
 // and a name that is no UTF-8.

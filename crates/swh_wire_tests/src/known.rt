@@ -17,11 +17,13 @@ static LISTS: [(&[u8], usize); 6] = [
         1,
     ),
     (
-        b"[\"swh:1:dir:4b825dc642cb6eb9a060e54bf8d69288fbee4904\",\n\"swh:1:snp:1a8893e6a86f444e8be8e7bda6cb34fb1735a00e\"]",
+        b"[\"swh:1:dir:4b825dc642cb6eb9a060e54bf8d69288fbee4904\",\n\
+\"swh:1:snp:1a8893e6a86f444e8be8e7bda6cb34fb1735a00e\"]",
         2,
     ),
     (
-        b"[\"swh:1:cnt:e69de29bb2d1d6434b8b29ae775ad8c2e48c5391\",\"swh:1:cnt:e69de29bb2d1d6434b8b29ae775ad8c2e48c5391\"]",
+        b"[\"swh:1:cnt:e69de29bb2d1d6434b8b29ae775ad8c2e48c5391\",\"swh:1:cnt:e69de29bb2d1d6434b8b29ae775ad8c\
+2e48c5391\"]",
         2,
     ),
 ];
