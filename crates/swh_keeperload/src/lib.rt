@@ -15,4 +15,4 @@ mod refusing;
 pub use keeping::{body_in, carry_out, certificate_in, standing_in};
 pub use loading::load_kept;
 pub use loading_parts::load_kept_parts;
-pub use writer::Alone;
+pub use protocol::Alone;
