@@ -38,7 +38,7 @@ fn all_changes(alloc: Global, count: usize, byte: u8) -> Result<Vec<Change<'stat
 }
 
 /// The id of the tree in which these files are set.
-fn id_of(alloc: Global, files: &[plain::File]) -> Result<Option<[u8; 20]>, Memory> {
+fn id_of(alloc: Global, files: &[tree_plain::File]) -> Result<Option<[u8; 20]>, Memory> {
     let mut trees = Trees::new(alloc, Sha1Namer);
     let mut sets = Vec::new(alloc);
     for file in files {
@@ -62,7 +62,7 @@ fn id_after(alloc: Global, changes: &[Change]) -> Result<Option<[u8; 20]>, Memor
 /// Whether the changes make of the tree what they make of the plain map.
 fn is_right(alloc: Global, changes: &[Change]) -> Result<bool, Memory> {
     let found = id_after(alloc, changes)?;
-    let wanted = match plain::after(alloc, changes)? {
+    let wanted = match tree_plain::after(alloc, changes)? {
         Some(files) => id_of(alloc, files.as_slice())?,
         None => None,
     };
