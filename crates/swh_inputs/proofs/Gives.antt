@@ -60,7 +60,11 @@ heard (Ok read) told (fault, is, same) none e =
     ap Ok (same ∙ ap (λ (f : InputFault). given.Bad f) failed)
 heard (Err m) told is none e = let no : None ≡ Some ReadFault = sym none ∙ e in absurd cc
 
--- so a folder's is
+-- so a stream's is
+pub stream_heard : {N : Type 0} (r : Result (Given N InputFault) Memory) (fault : StreamFault) → IfOk r (IsTold (told_of_stream fault)) → IfErr r (λ _. told_of_stream fault ≡ None) → fault ≡ of_stream.ReadFault → IsReadFault r
+stream_heard r fault told none e = heard r (told_of_stream fault) told none (ap told_of_stream e)
+
+-- and a folder's
 pub folder_heard : {N : Type 0} (r : Result (Given N InputFault) Memory) (fault : DirFault) → IfOk r (IsTold (told_of_folder fault)) → IfErr r (λ _. told_of_folder fault ≡ None) → fault ≡ of_folder.ReadFault → IsReadFault r
 folder_heard r fault told none e = heard r (told_of_folder fault) told none (ap told_of_folder e)
 

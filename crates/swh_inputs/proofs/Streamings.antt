@@ -28,6 +28,7 @@ use Rattle.swh_ingest.specs.Parts.{GaveSoFar, GaveSome, GaveAll, Broke, MayHaveG
 use Rattle.swh_ingest.proofs.SoFar.{so_far_keeps, some_keeps}
 use Rattle.swh_inputs.specs.Input.{InputText, BreaksInput, MayBreakInput, MeansInput}
 use Rattle.swh_inputs.specs.Input.InputText.{StreamText, FolderText, BatchText}
+use Rattle.swh_inputs.specs.Batching.{IsNextFault}
 use Rattle.swh_inputs.specs.Streaming.{AreMeantBy, IsNextOf, MayGiveInput}
 use Rattle.swh_inputs.specs.Reading.{told_of_stream}
 use Rattle.swh_inputs.specs.declared.bad.BadText.{BadText}
@@ -92,6 +93,19 @@ module _ {N : Type 0} (id : Kind → List ℕ → List ℕ) (tells : Type 0) (he
       let on_now = gave_some i objects now h g in
       gives_first id head text (made objects) (come_first id text now objects (on_now.come told))
   may_give i objects now h (inr (snapshot, g)) told = gives_meant id head text (made objects) (record { meaning = meaning_of objects snapshot; means = meant i objects snapshot now h g told; among = λ m c. c })
+
+  -- Nothing failed of what gave all, or what it gave so far.
+  pub all_quiet : (i : StreamState) (objects : List Entry) (snapshot : List ℕ) (now : StreamState) → GoesOn id tells text faults path [] i → GaveAll Gives i objects snapshot now → now.standing.place.faults ≡ faults
+  all_quiet i objects snapshot now h g = (ended i objects snapshot now h g).quiet
+
+  pub given_quiet : (i : StreamState) (objects : List Entry) (now : StreamState) → GoesOn id tells text faults path [] i → MayHaveGiven Gives i objects now → now.standing.place.faults ≡ faults
+  given_quiet i objects now h (inl g) = (gave_some i objects now h g).quiet
+  given_quiet i objects now h (inr (snapshot, g)) = all_quiet i objects snapshot now h g
+
+  -- Where it broke, a failure is told.
+  pub broke_quiet : ((i : StreamState) (found : Result (Next N InputFault) Memory) (now : StreamState) → Gives i found now → (IsNextFault found → ⊥) → now.standing.place.faults ≡ i.standing.place.faults)
+      → (i : StreamState) (bad : InputFault) (now : StreamState) → GoesOn id tells text faults path [] i → Broke Gives i bad now → (bad ≡ ReadFault → ⊥) → now.standing.place.faults ≡ faults
+  broke_quiet hears i bad now h g untold = hears g.mid (Ok (next.Bad bad)) now g.gives (λ e. untold (let same : bad ≡ ReadFault = cc in same)) ∙ (so_far i g.front g.mid h g.so_far).quiet
 
   -- Each object that it gave is one.
   pub objects_given : (i : StreamState) (objects : List Entry) (now : StreamState) → GoesOn id tells text faults path [] i → MayHaveGiven Gives i objects now → AllByRecursion (IsObject id) objects

@@ -118,9 +118,9 @@ module _ {S F : Type 0} (p : Parts S F) where
   HasFailed (Batch objects refs) (Batch now others) = IfBothFound (RoseOf p.sources.faults) objects now ⊎ IfBothFound (RoseOf p.sources.faults) refs others
   HasFailed _ _ = ⊥
 
-  -- No part of the input failed: each count of faults is as it was. Of a stream it is not said.
+  -- No part of the input failed: each count of faults is as it was.
   abbrev pub IsQuiet : Input S F → Input S F → Type 0
-  IsQuiet (Fast stream head) (Fast now other) = Unit {0}
+  IsQuiet (Fast stream head) (Fast now other) = IsSamePart (IsQuietOf p.sources.faults) stream now
   IsQuiet (Dir folder modes) (Dir now listing) = IsSamePart (IsQuietOf p.folders.faults) folder now × IsSameListing (IsQuietOf p.sources.faults) modes listing
   IsQuiet (Batch objects refs) (Batch now others) = IsSamePart (IsQuietOf p.sources.faults) objects now × IsSamePart (IsQuietOf p.sources.faults) refs others
   IsQuiet _ _ = ⊥

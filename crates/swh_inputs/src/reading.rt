@@ -119,6 +119,7 @@ fn read_stream<N: Namer, S: Source>(
         (Rose (S.faults source.old) (S.faults source.new))) }
     ensures whole { IfOk result (IsWhole N.id_of) }
     ensures same { IsSameSource (sources S.tells S.left S.faults S.path) source.old source.new }
+    ensures quiet { (IsReadFault result → ⊥) → IsQuietOf S.faults source.old source.new }
 {
     match load_source(alloc, namer, head_of(head), source) {
         Ok(objects) => Ok(Given::Made(objects)),
@@ -206,6 +207,7 @@ fn read_fast<N: Namer, S: Source>(
         (IfBothFound (RoseOf S.faults) stream.old stream.new)) }
     ensures whole { IfOk result (IsWhole N.id_of) }
     ensures same { IsSamePart (IsSameSource (sources S.tells S.left S.faults S.path)) stream.old stream.new }
+    ensures quiet { (IsReadFault result → ⊥) → IsSamePart (IsQuietOf S.faults) stream.old stream.new }
 {
     match stream {
         Opened::Found(source) => read_stream(alloc, namer, source, head),

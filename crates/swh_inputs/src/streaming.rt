@@ -4,6 +4,7 @@ ghost use Rattle.swh_base.specs.Text.{IsRef};
 ghost use Rattle.swh_base.specs.declared.entry.Entry.{Entry};
 ghost use Rattle.swh_fastload.specs.Giving.{GoesOn};
 ghost use Rattle.swh_ingest.specs.Parts.{IsMore};
+ghost use Rattle.swh_inputs.specs.Batching.{IsNextFault};
 ghost use Rattle.swh_inputs.specs.Streaming.{CameOn, IsNextOf};
 
 use crate::bad::InputFault;
@@ -39,6 +40,9 @@ pub fn next_of_stream<N: Namer, S: Source>(
     ensures given { (text : List ℕ) (faults : ℕ) (path : List ℕ) (given : List Entry)
         → GoesOn N.id_of S.tells text faults path given parts.old
         → IfOk result (IsNextOf N.id_of S.tells head.now text faults path given parts.new) }
+    // Nothing fails unheard: where it is not told that the source failed, it did not.
+    ensures quiet { (IsNextFault result → ⊥)
+        → parts.new.standing.place.faults ≡ parts.old.standing.place.faults }
     ensures on { IfOk result (λ next. IsMore next → CameOn parts.old parts.new) }
     ensures within { parts.old.standing.place.at ≤ 2 ^ 33 }
     ensures same_path { parts.new.standing.place.path ≡ parts.old.standing.place.path }

@@ -117,7 +117,7 @@ module _ {S F : Type 0} (p : Parts S F) where
 
   -- what is as it was did not fail
   quiet_as_it_was : (i : Input S F) → IsQuiet p i i
-  quiet_as_it_was (Fast stream head) = tt
+  quiet_as_it_was (Fast stream head) = part_as_it_was (IsQuietOf p.sources.faults) (λ s. refl) stream
   quiet_as_it_was (Dir folder modes) = (part_as_it_was (IsQuietOf p.folders.faults) (λ f. refl) folder, listing_as_it_was (IsQuietOf p.sources.faults) (λ s. refl) modes)
   quiet_as_it_was (Batch objects refs) = (part_as_it_was (IsQuietOf p.sources.faults) (λ s. refl) objects, part_as_it_was (IsQuietOf p.sources.faults) (λ s. refl) refs)
 

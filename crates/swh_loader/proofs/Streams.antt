@@ -25,16 +25,17 @@ use Rattle.swh_ingest.proofs.Closes.{whole_good}
 use Rattle.swh_keeperload.specs.Loading.{AddsVisit, EndsVisit, IsHeldBack, MakesVisitCalls, NoCountFell, Stops}
 use Rattle.swh_inputs.specs.Input.{InputText}
 use Rattle.swh_inputs.specs.Input.InputText.{StreamText}
+use Rattle.swh_inputs.specs.Batching.{IsNextFault}
 use Rattle.swh_inputs.specs.Parts.{Parts, IsSameInput}
 use Rattle.swh_inputs.specs.Streaming.{CameOn, IsNextOf, MayGoOn}
 use Rattle.swh_inputs.specs.declared.bad.InputFault.{InputFault}
 use Rattle.swh_inputs.specs.declared.bad.InputFault.TheVariants as fault
 use Rattle.swh_inputs.specs.declared.input.Input.{Input}
 use Rattle.swh_inputs.specs.declared.input.Input.TheVariants.{Fast}
-use Rattle.swh_inputs.proofs.Streamings.{broke_so, failed_so, may_give, means_all, objects_given, reaches_all, read_kept}
+use Rattle.swh_inputs.proofs.Streamings.{all_quiet, broke_quiet, broke_so, failed_so, given_quiet, may_give, means_all, objects_given, reaches_all, read_kept}
 use Rattle.swh_loader.specs.Ending.{MayGiveObjects, IsJobEnd, IsQuietEnd, end_for, held_bodies, outcome_for}
 use Rattle.swh_loader.specs.Leaving.{AreAllowed, IsLoadOf}
-use Rattle.swh_loader.proofs.Leaves.{given_by}
+use Rattle.swh_loader.proofs.Leaves.{broken_quiet, given_by}
 use Rattle.swh_loader.proofs.Outcomes.{load_of}
 
 -- The path is the same, and the count of faults did not fall.
@@ -91,14 +92,6 @@ module _ {S F N : Type 0} (id : Kind → List ℕ → List ℕ) (p : Parts S F) 
     stream_end bodies NotFound h = absurd h
     stream_end bodies Unread h = absurd h
 
-    stream_quiet : (end : walk.End InputFault) → IsQuietEnd p (input s) (input back) (end_for end)
-    stream_quiet (Full snapshot) = tt
-    stream_quiet (Met name) = tt
-    stream_quiet (Bad (fault.Bad bad)) = tt
-    stream_quiet (Bad fault.ReadFault) = tt
-    stream_quiet NotFound = tt
-    stream_quiet Unread = tt
-
     -- The reader's path has the name of the loan before the source's own.
     module _ (keeps : (i : StreamState) (found : Result (Next N InputFault) Memory) (now : StreamState) → Gives i found now → Keeps i now) where
       kept : walking.IsSameOrReadOn Gives Found i now → (now.standing.place.path ≡ path) × (p.sources.faults s ≤ now.standing.place.faults)
@@ -120,11 +113,20 @@ module _ {S F N : Type 0} (id : Kind → List ℕ → List ℕ) (p : Parts S F) 
           let later = (kept read).1 in
           ((there, omega (arith, later, faults)), refl)
 
-      -- All that is said of the load.
-      pub stream_load : {D : Type 0} (disks : Disks D) (a : Attempt) (old new : Kept D) (name other : ℕ) → path ≡ name ∷ p.sources.path s → other ∷ p.sources.path back ≡ now.standing.place.path → (result : Result (Loaded InputFault) LoadFault)
-          → IfOk result (λ loaded. EndsVisit a old new loaded.visit (statuses_of loaded.end)) → IfOk result (λ loaded. walking.IsGivenEndAt Gives Found (held_bodies new) i now loaded.end)
-          → AddsVisit (walking.AreAllowed Gives Found i) a old.history new.history → (disks.tells → MakesVisitCalls id disks (walking.AreAllowed Gives Found i) a old new) → ((n : ℕ) → old.wounded ≡ Some n → IsHeldBack old new result)
-          → IfErr result (Stops id disks (walking.AreAllowed Gives Found i) a old new) → NoCountFell disks old new → walking.IsSameOrReadOn Gives Found i now → IsLoadOf id p disks a (input s) (input back) old new (outcome_for result)
-      stream_load disks a old new name other begun ended_at result ended end adds calls wounded stops later read =
-          load_of id p disks a (input s) (input back) old new (walking.AreAllowed Gives Found i) (walking.IsGivenEndAt Gives Found (held_bodies new) i now)
-          stream_allowed (stream_end (held_bodies new)) (λ end is. stream_quiet end) result ended end adds calls wounded stops later (stream_same name other begun ended_at read)
+      -- Where reading on tells each failure, so does the load.
+      module _ (hears : (i : StreamState) (found : Result (Next N InputFault) Memory) (now : StreamState) → Gives i found now → (IsNextFault found → ⊥) → now.standing.place.faults ≡ i.standing.place.faults) where
+        stream_quiet : (bodies : Bodies) (end : walk.End InputFault) → walking.IsGivenEndAt Gives Found bodies i now end → IsQuietEnd p (input s) (input back) (end_for end)
+        stream_quiet bodies (Full snapshot) h = faults ∙ all_quiet id p.sources.tells head (p.sources.left s) (p.sources.faults s) path Gives on i h.0 snapshot now begins h.1
+        stream_quiet bodies (Met name) h = faults ∙ given_quiet id p.sources.tells head (p.sources.left s) (p.sources.faults s) path Gives on i h.0 now begins h.1
+        stream_quiet bodies (Bad bad) h = broken_quiet p (input s) (input back) bad (λ untold. faults ∙ broke_quiet id p.sources.tells head (p.sources.left s) (p.sources.faults s) path Gives on hears i bad now begins h.broke untold)
+        stream_quiet bodies NotFound h = absurd h
+        stream_quiet bodies Unread h = absurd h
+
+        -- All that is said of the load.
+        pub stream_load : {D : Type 0} (disks : Disks D) (a : Attempt) (old new : Kept D) (name other : ℕ) → path ≡ name ∷ p.sources.path s → other ∷ p.sources.path back ≡ now.standing.place.path → (result : Result (Loaded InputFault) LoadFault)
+            → IfOk result (λ loaded. EndsVisit a old new loaded.visit (statuses_of loaded.end)) → IfOk result (λ loaded. walking.IsGivenEndAt Gives Found (held_bodies new) i now loaded.end)
+            → AddsVisit (walking.AreAllowed Gives Found i) a old.history new.history → (disks.tells → MakesVisitCalls id disks (walking.AreAllowed Gives Found i) a old new) → ((n : ℕ) → old.wounded ≡ Some n → IsHeldBack old new result)
+            → IfErr result (Stops id disks (walking.AreAllowed Gives Found i) a old new) → NoCountFell disks old new → walking.IsSameOrReadOn Gives Found i now → IsLoadOf id p disks a (input s) (input back) old new (outcome_for result)
+        stream_load disks a old new name other begun ended_at result ended end adds calls wounded stops later read =
+            load_of id p disks a (input s) (input back) old new (walking.AreAllowed Gives Found i) (walking.IsGivenEndAt Gives Found (held_bodies new) i now)
+            stream_allowed (stream_end (held_bodies new)) (stream_quiet (held_bodies new)) result ended end adds calls wounded stops later (stream_same name other begun ended_at read)

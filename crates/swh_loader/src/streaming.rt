@@ -8,6 +8,7 @@ ghost use Rattle.swh_outside.specs.declared.fault.Opened.TheVariants.{Found as H
 ghost use Rattle.swh_fastload.specs.Giving.{GoesOn};
 ghost use Rattle.swh_ingest.specs.Owning.{attempt};
 ghost use Rattle.swh_ingest.specs.Parts.{IsMore};
+ghost use Rattle.swh_inputs.specs.Batching.{IsNextFault};
 ghost use Rattle.swh_inputs.specs.Parts.{folders, parts};
 ghost use Rattle.swh_inputs.specs.Streaming.{CameOn, IsNextOf, MayGoOn};
 ghost use Rattle.swh_inputs.specs.declared.input.Input.TheVariants.{Fast as FastInput};
@@ -72,6 +73,8 @@ fn load_lent<'a, N: Namer, D: Disk, S: Source, F: Folder, G: Gate>(
                 ensures given { (text : List ℕ) (faults : ℕ) (path : List ℕ) (given : List Entry)
                     → GoesOn N.id_of S.tells text faults path given parts.old
                     → IfOk result (IsNextOf N.id_of S.tells head.entry.now text faults path given parts.new) }
+                ensures quiet { (IsNextFault result → ⊥)
+                    → parts.new.standing.place.faults ≡ parts.old.standing.place.faults }
                 ensures on { IfOk result (λ next. IsMore next → CameOn parts.old parts.new) }
                 ensures within { parts.old.standing.place.at ≤ 2 ^ 33 }
                 ensures same_path { parts.new.standing.place.path ≡ parts.old.standing.place.path }

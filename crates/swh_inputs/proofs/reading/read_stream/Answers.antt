@@ -1,13 +1,14 @@
-use Rattle.std.proofs.Common.{List, ℕ, Option, Some, subst}
+use Rattle.std.proofs.Common.{◌≡◌, List, ℕ, Option, Some, subst}
 use Rattle.swh_base.specs.declared.visit.VisitKind.TheVariants.{Fast}
 use Rattle.swh_outside.specs.Faults.{Rose}
 use Rattle.swh_outside.specs.Views.{sources}
 use Rattle.swh_fastload.specs.Input.{Means}
 use Rattle.swh_fastload.specs.Loaded.{making_of}
 use Rattle.swh_fastload.specs.Sourced.{ExplainsSource}
+use Rattle.swh_fastload.specs.declared.bad.InputFault.TheVariants as of_stream
 use Rattle.swh_inputs.specs.Input.InputText.{StreamText}
 use Rattle.swh_inputs.specs.Reading.{GivesSo, told_of_stream}
-use Rattle.swh_inputs.proofs.Gives.{told_so, told_whole, stream_gives, stream_means}
+use Rattle.swh_inputs.proofs.Gives.{told_so, told_whole, stream_gives, stream_heard, stream_means}
 use Rattle.swh_inputs.proofs.reading.read_stream.Goals as goal
 
 pub returns-in-Ok-clause-read : goal.returns-in-Ok-clause-read
@@ -27,3 +28,6 @@ returns-in-Err-clause-read g c =
 
 pub returns-in-Err-clause-whole : goal.returns-in-Err-clause-whole
 returns-in-Err-clause-whole g c = told_whole g.N.Namer.id_of c.told_of_stream.result (told_of_stream c.in-Err.fault) c.told_of_stream.ensures.told
+
+pub returns-in-Err-clause-quiet : goal.returns-in-Err-clause-quiet
+returns-in-Err-clause-quiet g c = λ untold. c.in-Err.ensures.quiet (λ e. untold (stream_heard c.told_of_stream.result c.in-Err.fault c.told_of_stream.ensures.told c.told_of_stream.ensures.memory (let same : c.in-Err.fault ≡ of_stream.ReadFault = cc in same)))

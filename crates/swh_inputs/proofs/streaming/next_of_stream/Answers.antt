@@ -1,5 +1,9 @@
-use Rattle.std.proofs.Common.{List, ℕ, Option, subst}
+use Rattle.std.proofs.Common.{◌≡◌, List, ℕ, Option, Some, None, Ok, sym, ap, ◌∙◌, subst}
 use Rattle.swh_fastload.specs.Giving.{BreaksOff, EndsStream}
+use Rattle.swh_fastload.specs.declared.bad.InputFault.TheVariants as of_stream
+use Rattle.swh_ingest.specs.declared.parts.Next.TheVariants as next
+use Rattle.swh_inputs.specs.Reading.{told_of_stream}
+use Rattle.swh_inputs.specs.declared.bad.InputFault.TheVariants.{ReadFault}
 use Rattle.swh_inputs.proofs.Streamings.{told_next}
 use Rattle.swh_inputs.proofs.streaming.next_of_stream.Goals as goal
 
@@ -22,3 +26,24 @@ returns-in-Ok-More-clause-on g c = λ more. record {
   still = rw c.in-Ok-More.field-0-is at (rw c.in-Ok-More.is at c.next.ensures.still);
   onward = rw c.in-Ok-More.field-0-is at (rw c.in-Ok-More.is at c.next.ensures.onward);
 }
+
+pub returns-in-Ok-More-clause-quiet : goal.returns-in-Ok-More-clause-quiet
+returns-in-Ok-More-clause-quiet g c = λ untold. let is = c.in-Ok-More.is in c.next.ensures.quiet (λ e. cc)
+
+pub returns-in-Ok-Last-clause-quiet : goal.returns-in-Ok-Last-clause-quiet
+returns-in-Ok-Last-clause-quiet g c = λ untold. let is = c.in-Ok-Last.is in c.next.ensures.quiet (λ e. cc)
+
+pub returns-in_ok-fault_of_stream-in-Err-clause-quiet : goal.returns-in_ok-fault_of_stream-in-Err-clause-quiet
+returns-in_ok-fault_of_stream-in-Err-clause-quiet g c = λ untold. c.next.ensures.quiet (λ e.
+    let is = c.in-Err.is in
+    let of_source : c.in-Err.fault ≡ of_stream.ReadFault = cc in
+    let same : Some c.in_ok-fault_of_stream-in-Err.field-0 ≡ Some ReadFault = sym c.in_ok-fault_of_stream-in-Err.ensures.told ∙ ap told_of_stream of_source in
+    let failed : c.in_ok-fault_of_stream-in-Err.field-0 ≡ ReadFault = cc in
+    untold (ap (λ f. Ok (next.Bad f)) failed))
+
+pub returns-in_err-fault_of_stream-in-Err-clause-quiet : goal.returns-in_err-fault_of_stream-in-Err-clause-quiet
+returns-in_err-fault_of_stream-in-Err-clause-quiet g c = λ untold. c.next.ensures.quiet (λ e.
+    let is = c.in-Err.is in
+    let of_source : c.in-Err.fault ≡ of_stream.ReadFault = cc in
+    let none : None ≡ Some ReadFault = sym c.in_err-fault_of_stream-in-Err.ensures.memory ∙ ap told_of_stream of_source in
+    absurd cc)

@@ -1,4 +1,4 @@
-use Rattle.std.proofs.Common.{rules, ◌∷◌, List, ℕ, Result, refl, sym, subst}
+use Rattle.std.proofs.Common.{◌≡◌, rules, ◌∷◌, List, ℕ, Result, refl, sym, subst}
 use Rattle.std.specs.Prelude.{IfOk}
 use Rattle.swh_base.specs.declared.visit.VisitKind.TheVariants.{Fast}
 use Rattle.swh_outside.specs.Views.{disks, sources}
@@ -19,7 +19,7 @@ pub load_kept_parts-requires-clause-takes : goal.load_kept_parts-requires-clause
 load_kept_parts-requires-clause-takes g c κs within = λ found. (
   c.new-parts.ensures.still,
   λ s ready. (c.requires, search rules),
-  λ s x t ready post. goes_on s.now t.now x post.1.0 post.1.1.0,
+  λ s x t ready post. goes_on s.now t.now x post.1.1.0 post.1.1.1.0,
   λ s name body ready. search rules,
   λ s name body x t ready post. search rules,
 )
@@ -55,7 +55,8 @@ returns-clause-load g c =
     (stream_load id p head s path _
     (λ i x now given r h. subst (λ (b : StreamState). IfOk x (IsNextOf id p.sources.tells head (p.sources.left s) (p.sources.faults s) path given b)) r.4 (r.3.0 (p.sources.left s) (p.sources.faults s) path given (subst (λ (b : StreamState). GoesOn id p.sources.tells (p.sources.left s) (p.sources.faults s) path given b) (sym r.2) h)))
     c.new-parts.result c.new-parts.ensures c.load_kept_parts.new.input back c.close.ensures.faults
-    (λ i x now r. subst (λ (b : StreamState). Keeps b now) r.2 (subst (λ (b : StreamState). Keeps r.0.now b) r.4 (r.3.1.1.1.0, r.3.1.1.1.1)))
+    (λ i x now r. subst (λ (b : StreamState). Keeps b now) r.2 (subst (λ (b : StreamState). Keeps r.0.now b) r.4 (r.3.1.1.1.1.0, r.3.1.1.1.1.1)))
+    (λ i x now r untold. subst (λ (b : StreamState). now.standing.place.faults ≡ b.standing.place.faults) r.2 (subst (λ (b : StreamState). b.standing.place.faults ≡ r.0.now.standing.place.faults) r.4 (r.3.1.0 untold)))
     d a c.args.keeper.now c.load_kept_parts.new.keeper c.args.source.ghost_name c.close.result.source.ghost_name refl c.close.ensures.path c.load_kept_parts.result said.ended said.end said.adds said.calls said.wounded said.stops said.later said.input)
 
 pub returns-clause-same_reference : goal.returns-clause-same_reference
@@ -68,5 +69,5 @@ returns-clause-same_reference g c =
     stream_loan id p head s path _
     (λ i x now given r h. subst (λ (b : StreamState). IfOk x (IsNextOf id p.sources.tells head (p.sources.left s) (p.sources.faults s) path given b)) r.4 (r.3.0 (p.sources.left s) (p.sources.faults s) path given (subst (λ (b : StreamState). GoesOn id p.sources.tells (p.sources.left s) (p.sources.faults s) path given b) (sym r.2) h)))
     c.new-parts.result c.new-parts.ensures c.load_kept_parts.new.input c.close.result.source.now c.close.ensures.faults
-    (λ i x now r. subst (λ (b : StreamState). Keeps b now) r.2 (subst (λ (b : StreamState). Keeps r.0.now b) r.4 (r.3.1.1.1.0, r.3.1.1.1.1)))
+    (λ i x now r. subst (λ (b : StreamState). Keeps b now) r.2 (subst (λ (b : StreamState). Keeps r.0.now b) r.4 (r.3.1.1.1.1.0, r.3.1.1.1.1.1)))
     c.args.source.ghost_name c.close.result.source.ghost_name refl c.close.ensures.path c.load_kept_parts.ensures.input
