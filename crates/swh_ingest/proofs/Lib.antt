@@ -9,4 +9,4 @@ pub mod Loads
 pub mod InHand
 pub mod Owned
 pub mod SoFar
-pub mod Once
+pub mod Wholes

@@ -13,14 +13,12 @@ use Rattle.swh_model.specs.declared.event.Wish.{Wish}
 use Rattle.swh_model.specs.declared.event.Wish.TheVariants as wished
 use Rattle.swh_ingest.specs.Knowing.{Protocol, IsLawful}
 use Rattle.swh_ingest.specs.declared.end.End.{End}
-use Rattle.swh_ingest.specs.declared.end.Loaded.{Loaded}
-use Rattle.swh_ingest.specs.declared.end.LoadFault.{LoadFault}
 use Rattle.swh_ingest.specs.declared.stop.Stop.{Stop}
 use Rattle.swh_ingest.specs.Owning.{Attempt, attempt, open_event, mark_of, IsKind, IsWished}
 use Rattle.swh_ingest.specs.Visiting.{IsMine}
 use Rattle.swh_ingest.specs.Walking.{Adds, Opens, StopsNow, StopsAfter}
 use Rattle.swh_ingest.specs.Ending.{IsMarkOf, IsMarkAsked}
-use Rattle.swh_ingest.specs.Loading.{EndsOwn, IsOwn, IsOwnAsked, StopsLoad, StopsUnended, last_at, statuses_of}
+use Rattle.swh_ingest.specs.Loading.{IsOwn, IsOwnAsked, StopsUnended, last_at, statuses_of}
 use Rattle.swh_ingest.proofs.Ends.{of_mark, asked_mark}
 use Rattle.swh_ingest.proofs.Steps.{adds_as, adds_then, after_as, after_now, after_then, asking_as}
 
@@ -62,22 +60,6 @@ own_asked_as A B t number f (wished.Open origin kind date) h = absurd h
 module _ {S : Type 0} (id : Kind → List ℕ → List ℕ) (w : Protocol S) (law : IsLawful id w) where
   pub unended_as : (P P' : EventKind → Type 0) (Q Q' : Wish → Type 0) (a b : S) (why : Stop) → ((what : EventKind) → P what → P' what) → ((wish : Wish) → Q wish → Q' wish) → StopsUnended id w P Q a b why → StopsUnended id w P' Q' a b why
   unended_as P P' Q Q' a b why f g h = record { marks = h.marks; unended = h.unended; after_them = after_as id w law P P' Q Q' h.marks a b why f g h.after_them }
-
-  pub ends_as : {B : Type 0} (A A' : List Entry → Type 0) (t : Attempt) (a b : S) → ((entries : List Entry) → A entries → A' entries) → (loaded : Loaded B) → EndsOwn id w A t a b loaded → EndsOwn id w A' t a b loaded
-  ends_as A A' t a b f loaded h = record {
-    mid = h.mid;
-    opened = h.opened;
-    own = adds_as id w law (IsOwn w.alone A t loaded.visit) (IsOwn w.alone A' t loaded.visit) (statuses_of loaded.end) h.mid b (own_as w A A' t loaded.visit f) h.own;
-    last = h.last;
-  }
-
-  pub stops_as : (A A' : List Entry → Type 0) (t : Attempt) (a b : S) → ((entries : List Entry) → A entries → A' entries) → (fault : LoadFault) → StopsLoad id w A t a b fault → StopsLoad id w A' t a b fault
-  stops_as A A' t a b f fault (inl h) = inl (record { no_visit = h.no_visit; now = h.now })
-  stops_as A A' t a b f fault (inr h) = inr (record {
-    mid = h.mid;
-    opened = h.opened;
-    later = unended_as (IsOwn w.alone A t fault.visit) (IsOwn w.alone A' t fault.visit) (IsOwnAsked A t fault.visit) (IsOwnAsked A' t fault.visit) h.mid b fault.why (own_as w A A' t fault.visit f) (own_asked_as A A' t fault.visit f) h.later;
-  })
 
   -- nothing was marked
   pub unended_now : (P : EventKind → Type 0) (Q : Wish → Type 0) (a b : S) (why : Stop) → w.ready a → StopsNow id w Q a b why → StopsUnended id w P Q a b why

@@ -1,5 +1,5 @@
--- What a load of an input adds, how it ends, and why it stops.
-use Rattle.std.specs.Prelude.{◌≡◌, ◌≢◌, ◌⊎◌, ℕ, Bool, true, Result, Ok, Option, Some, None, List, [], ◌∷◌}
+-- What a load adds, how its visit ends, and why it stops.
+use Rattle.std.specs.Prelude.{◌≡◌, ◌≢◌, ◌⊎◌, ℕ, Bool, true, Option, Some, None, List, [], ◌∷◌}
 use Rattle.swh_base.specs.declared.kind.Kind.{Kind}
 use Rattle.swh_base.specs.declared.entry.Entry.{Entry}
 use Rattle.swh_base.specs.declared.visit.Status.{Status}
@@ -9,20 +9,13 @@ use Rattle.swh_model.specs.declared.event.EventKind.{EventKind}
 use Rattle.swh_model.specs.declared.event.EventKind.TheVariants.{Batch, Mark}
 use Rattle.swh_model.specs.declared.event.Wish.{Wish}
 use Rattle.swh_model.specs.declared.event.Wish.TheVariants as wished
-use Rattle.swh_model.specs.Archive.{Bodies}
-use Rattle.swh_dedup.specs.Whole.{HasAllThatIsReached}
 use Rattle.swh_ingest.specs.Knowing.{Protocol}
 use Rattle.swh_ingest.specs.declared.end.End.{End}
 use Rattle.swh_ingest.specs.declared.end.End.TheVariants.{Full, NotFound, Unread, Bad, Met}
 use Rattle.swh_ingest.specs.declared.end.Loaded.{Loaded}
 use Rattle.swh_ingest.specs.declared.end.LoadFault.{LoadFault}
-use Rattle.swh_ingest.specs.declared.input.Opening.{Opening}
-use Rattle.swh_ingest.specs.declared.input.Opening.TheVariants as opening
-use Rattle.swh_ingest.specs.declared.input.Input.{Input}
-use Rattle.swh_ingest.specs.declared.input.Input.TheVariants as given
 use Rattle.swh_ingest.specs.declared.stop.Stop.{Stop}
-use Rattle.swh_ingest.specs.Owning.{Attempt, IsWished, AreAmong}
-use Rattle.swh_ingest.specs.Sending.{AllHeld, IsMet}
+use Rattle.swh_ingest.specs.Owning.{Attempt, IsWished}
 use Rattle.swh_ingest.specs.Visiting.{HasLast}
 use Rattle.swh_ingest.specs.Walking.{Adds, Opens, StopsNow, StopsAfter}
 
@@ -53,59 +46,6 @@ statuses_of NotFound = (NotFoundStatus, None) ∷ []
 statuses_of Unread = (Ongoing, None) ∷ (FailedStatus, None) ∷ []
 statuses_of (Bad bad) = (Ongoing, None) ∷ (FailedStatus, None) ∷ []
 statuses_of (Met name) = (Ongoing, None) ∷ (FailedStatus, None) ∷ []
-
--- What the input makes has all that is reached from its snapshot.
-abbrev pub IsWhole : {N B : Type 0} → (Kind → List ℕ → List ℕ) → Input N B → Type 0
-IsWhole id (given.Made made) = HasAllThatIsReached id made
-IsWhole id (given.Bad bad) = Unit {0}
-
--- These are objects that the input makes.
-abbrev pub AreOf : {N B : Type 0} → Input N B → List Entry → Type 0
-AreOf (given.Made made) entries = AreAmong made.objects.items entries
-AreOf (given.Bad bad) entries = ⊥
-
--- The end of a visit whose input gives this.
-abbrev pub IsEndOf : {N B : Type 0} → Bodies → Input N B → End B → Type 0
-IsEndOf bodies (given.Made made) (Full snapshot) = (snapshot ≡ made.snapshot) × AllHeld bodies made.objects.items
-IsEndOf bodies (given.Made made) (Met name) = IsMet bodies made.objects.items name
-IsEndOf bodies (given.Made made) _ = ⊥
-IsEndOf bodies (given.Bad bad) end = end ≡ Bad bad
-
-module _ {I N B E : Type 0} (Reads : I → Result (Input N B) E → I → Type 0) where
-  -- Reading may give something whose objects these are.
-  pub record AreRead (i : I) (entries : List Entry) : Type 0 where
-    pub given : Input N B
-    pub now : I
-    pub read : Reads i (Ok given) now
-    pub are_of : AreOf given entries
-
-  -- The batches of a load hold only what reading the input makes; without an input there are none.
-  abbrev pub AreAllowed : Opening → I → List Entry → Type 0
-  AreAllowed opening.Found i entries = AreRead i entries
-  AreAllowed _ i entries = ⊥
-
-  -- The input was read, and the visit ended as what it gave has it.
-  pub record IsReadEnd (bodies : Bodies) (i now : I) (end : End B) : Type 0 where
-    pub given : Input N B
-    pub read : Reads i (Ok given) now
-    pub is_end : IsEndOf bodies given end
-
-  -- What the end says of an input that was found so.
-  abbrev pub IsEndAt : Opening → Bodies → I → I → End B → Type 0
-  IsEndAt opening.Found bodies i now end = IsReadEnd bodies i now end
-  IsEndAt opening.NotFound bodies i now end = (end ≡ NotFound) × (now ≡ i)
-  IsEndAt opening.Failed bodies i now end = (end ≡ Unread) × (now ≡ i)
-  IsEndAt opening.Memory bodies i now end = ⊥
-
-  -- The input was found, and read.
-  pub record WasRead (is : Opening) (i now : I) : Type 0 where
-    pub found : is ≡ opening.Found
-    pub result : Result (Input N B) E
-    pub read : Reads i result now
-
-  -- The input is as it was, or was read.
-  abbrev pub IsSameOrRead : Opening → I → I → Type 0
-  IsSameOrRead is i now = (now ≡ i) ⊎ WasRead is i now
 
 -- The marks of a visit that has not ended.
 abbrev pub AreUnended : Statuses → Type 0

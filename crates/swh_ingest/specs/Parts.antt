@@ -1,5 +1,5 @@
 -- An input that is read part by part: what it may have given where its reading stopped.
-use Rattle.std.specs.Prelude.{◌≡◌, ◌≢◌, ◌⊎◌, ℕ, Bool, true, Result, Ok, Err, None, List, [], ◌∷◌, ◌++◌, Contains}
+use Rattle.std.specs.Prelude.{◌≡◌, ◌≢◌, ◌⊎◌, ℕ, Bool, true, Result, Ok, None, List, [], ◌∷◌, ◌++◌, Contains}
 use Rattle.std.specs.Global.{Vec}
 use Rattle.swh_base.specs.declared.kind.Kind.{Kind}
 use Rattle.swh_base.specs.declared.entry.Entry.{Entry}
@@ -10,11 +10,9 @@ use Rattle.swh_model.specs.declared.event.Wish.{Wish}
 use Rattle.swh_model.specs.declared.event.Wish.TheVariants as wished
 use Rattle.swh_model.specs.Archive.{Bodies}
 use Rattle.swh_dedup.specs.declared.objects.Objects.{Objects}
-use Rattle.swh_dedup.specs.Whole.{AreWhole, names_of}
+use Rattle.swh_dedup.specs.Whole.{AreWhole, HasAllThatIsReached, names_of}
 use Rattle.swh_ingest.specs.declared.end.End.{End}
 use Rattle.swh_ingest.specs.declared.end.End.TheVariants as ended
-use Rattle.swh_ingest.specs.declared.input.Input.{Input}
-use Rattle.swh_ingest.specs.declared.input.Input.TheVariants as given
 use Rattle.swh_ingest.specs.declared.input.Opening.{Opening}
 use Rattle.swh_ingest.specs.declared.input.Opening.TheVariants as opening
 use Rattle.swh_ingest.specs.declared.parts.Next.{Next}
@@ -30,17 +28,11 @@ abbrev pub IsMore : {N B : Type 0} → Next N B → Type 0
 IsMore (next.Part objects) = Unit {0}
 IsMore _ = ⊥
 
--- what comes of an input that is read at once
-abbrev pub next_of : {N B E : Type 0} → Result (Input N B) E → Result (Next N B) E
-next_of (Ok (given.Made made)) = Ok (next.Last made)
-next_of (Ok (given.Bad bad)) = Ok (next.Bad bad)
-next_of (Err e) = Err e
-
--- The input was read at once.
-pub record GivesAtOnce {I N B E : Type 0} (Reads : I → Result (Input N B) E → I → Type 0) (i : I) (found : Result (Next N B) E) (now : I) : Type 0 where
-  pub result : Result (Input N B) E
-  pub read : Reads i result now
-  pub is : found ≡ next_of result
+-- This is all of the input: the last objects, with all that is reached from their snapshot, or why the input is bad.
+abbrev pub IsWhole : {N B : Type 0} → (Kind → List ℕ → List ℕ) → Next N B → Type 0
+IsWhole id (next.Part objects) = ⊥
+IsWhole id (next.Last last) = HasAllThatIsReached id last
+IsWhole id (next.Bad bad) = Unit {0}
 
 -- the objects of parts, in order
 abbrev pub objects_in : List (List Entry) → List Entry

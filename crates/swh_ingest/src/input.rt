@@ -1,6 +1,5 @@
 // What is loaded.
-use swh_base::{Namer, Url, VisitKind};
-use swh_dedup::Objects;
+use swh_base::{Url, VisitKind};
 
 /// How an input was found.
 #[derive(Clone, Copy, Debug, PartialEq, Eq)]
@@ -13,13 +12,6 @@ pub enum Opening {
     Failed,
     /// Memory is wanting.
     Memory,
-}
-
-/// What an input gives: what it makes, or why it is bad.
-#[derive(Drop)]
-pub enum Input<N: Namer, B> {
-    Made(Objects<N>),
-    Bad(B),
 }
 
 /// An origin, the kind of its visit, when it is loaded, how its input was found, and how that is read.

@@ -1,6 +1,4 @@
 // An input that is read part by part.
-use crate::input::Input;
-use crate::reading::Reads;
 use swh_base::{Memory, Name, Namer, Shared};
 use swh_dedup::Objects;
 use swh_object::Object;
@@ -52,33 +50,6 @@ pub trait ReadsParts<I, X: GoesOn> {
     fn share(&self, input: &mut I, name: &Name, body: Shared<u8>)
         requires { takes self.now input.old }
         ensures { input.new ≡ input.old };
-}
-
-/// The way that reads an input at once: all of it is its last part.
-#[derive(Drop)]
-pub struct AtOnce<'a, R> {
-    pub read: &'a R,
-}
-
-impl<'a, N: Namer, I, B: Drop, R: Reads<I, Input<N, B>>> ReadsParts<I, Next<N, B>>
-    for AtOnce<'a, R> {
-    ghost use Rattle.swh_ingest.specs.Parts.{GivesAtOnce};
-
-    ghost takes = { λ r i. R.takes r.read.now i };
-
-    ghost gives = { λ r i next now. GivesAtOnce (R.gives r.read.now) i next now };
-
-    ghost left = { λ r i. 0 };
-
-    fn next(&self, input: &mut I) -> Result<Next<N, B>, Memory> {
-        match self.read.read(input) {
-            Ok(Input::Made(made)) => Ok(Next::Last(made)),
-            Ok(Input::Bad(bad)) => Ok(Next::Bad(bad)),
-            Err(fault) => Err(fault),
-        }
-    }
-
-    fn share(&self, _input: &mut I, _name: &Name, _body: Shared<u8>) {}
 }
 
 /// What is said of inputs of type `I` that a call reads part by part.

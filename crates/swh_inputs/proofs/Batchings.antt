@@ -17,17 +17,16 @@ use Rattle.swh_batchread.specs.BatchFault.{BreaksBatch, MayBreakBatch}
 use Rattle.swh_batchread.specs.Giving.{BatchState, BreaksOff, EndsBatch, GoesOn}
 use Rattle.swh_batchread.specs.RefsFault.{BreaksRefs, MayBreakRefs}
 use Rattle.swh_batchread.specs.declared.fault.BatchFault.{BatchFault}
-use Rattle.swh_ingest.specs.declared.input.Input.TheVariants as given
 use Rattle.swh_ingest.specs.declared.parts.Next.{Next}
 use Rattle.swh_ingest.specs.declared.parts.Next.TheVariants as next
 use Rattle.swh_ingest.specs.Parts.{GaveSoFar, GaveSome, GaveAll, Broke, MayHaveGiven, IsReadOn, ReachesAll}
 use Rattle.swh_ingest.proofs.SoFar.{so_far_keeps, some_keeps}
 use Rattle.swh_inputs.specs.Input.{MeansInput}
 use Rattle.swh_inputs.specs.Input.InputText.{BatchText}
-use Rattle.swh_inputs.specs.Batching.{AreQuiet, IsNextFault, IsNextOfBatch}
+use Rattle.swh_inputs.specs.Batching.{AreQuiet, IsNextOfBatch}
 use Rattle.swh_inputs.specs.Parts.{IsSameSource}
 use Rattle.swh_inputs.specs.Streaming.{MayGiveInput}
-use Rattle.swh_inputs.specs.Reading.{GivesSo, told_of_batch}
+use Rattle.swh_inputs.specs.Reading.{GivesSo, IsReadFault, told_of_batch}
 use Rattle.swh_inputs.specs.declared.bad.InputFault.{InputFault}
 use Rattle.swh_inputs.specs.declared.bad.InputFault.TheVariants.{ReadFault}
 use Rattle.swh_inputs.proofs.Gives.{pair_gives}
@@ -43,14 +42,14 @@ module _ {S : Type 0} (N : Type 0) (id : Kind → List ℕ → List ℕ) (source
       let of_refs = sources.left refs in
       let first = Rose (sources.faults source) (sources.faults now) in
       let second = Rose (sources.faults refs) (sources.faults others) in
-      some_told (told_of_batch fault) told (λ t. GivesSo id Batch sources.tells (Some (BatchText text of_refs)) {N = N} (first ⊎ second) (given.Bad t)) is
+      some_told (told_of_batch fault) told (λ t. GivesSo id Batch sources.tells (Some (BatchText text of_refs)) {N = N} (first ⊎ second) (next.Bad t)) is
       (pair_gives N id sources.tells text of_refs MayBreakBatch (BreaksBatch id text) (sources.faults source) (sources.faults now) (first ⊎ second) fault inl (λ t. inl) inl h.explains)
   told_next before s now others fault told is (inr h) =
       let text = sources.left source in
       let of_refs = sources.left refs in
       let first = Rose (sources.faults source) (sources.faults now) in
       let second = Rose (sources.faults refs) (sources.faults others) in
-      some_told (told_of_batch fault) told (λ t. GivesSo id Batch sources.tells (Some (BatchText text of_refs)) {N = N} (first ⊎ second) (given.Bad t)) is
+      some_told (told_of_batch fault) told (λ t. GivesSo id Batch sources.tells (Some (BatchText text of_refs)) {N = N} (first ⊎ second) (next.Bad t)) is
       (pair_gives N id sources.tells text of_refs (MayBreakRefs before) (BreaksRefs of_refs before) (sources.faults refs) (sources.faults others) (first ⊎ second) fault (λ may. inr (before, may))
       (λ t breaks. inr (before, record { means = h.all.means t; each = h.all.each }, breaks)) inr h.explains)
 
@@ -125,7 +124,7 @@ module _ {S I N : Type 0} (id : Kind → List ℕ → List ℕ) (sources : Sourc
   given_quiet i objects now h (inr (snapshot, g)) = all_quiet i objects snapshot now h g
 
   -- Where it broke, a failure is told.
-  pub broke_quiet : ((i : I) (found : Result (Next N InputFault) Memory) (now : I) (before : List Entry) → Gives i found now → Stands before i → (IsNextFault found → ⊥) → AreQuiet sources source refs (objects_of now) (refs_of now))
+  pub broke_quiet : ((i : I) (found : Result (Next N InputFault) Memory) (now : I) (before : List Entry) → Gives i found now → Stands before i → (IsReadFault found → ⊥) → AreQuiet sources source refs (objects_of now) (refs_of now))
       → (i : I) (bad : InputFault) (now : I) → Stands [] i → Broke Gives i bad now → (bad ≡ ReadFault → ⊥) → AreQuiet sources source refs (objects_of now) (refs_of now)
   broke_quiet hears i bad now h g untold = hears g.mid (Ok (next.Bad bad)) now g.front g.gives (so_far i g.front g.mid h g.so_far) (λ e. untold (let same : bad ≡ ReadFault = cc in same))
 

@@ -28,9 +28,9 @@ use Rattle.swh_batchread.specs.Failing.{Fails}
 use Rattle.swh_batchread.specs.Refs.{MeansRefs}
 use Rattle.swh_batchread.specs.declared.fault.BatchFault.{BatchFault}
 use Rattle.swh_batchread.specs.declared.fault.BatchFault.TheVariants as of_batch
-use Rattle.swh_ingest.specs.Loading.{IsWhole}
-use Rattle.swh_ingest.specs.declared.input.Input.{Input as Given}
-use Rattle.swh_ingest.specs.declared.input.Input.TheVariants as given
+use Rattle.swh_ingest.specs.Parts.{IsWhole}
+use Rattle.swh_ingest.specs.declared.parts.Next.{Next}
+use Rattle.swh_ingest.specs.declared.parts.Next.TheVariants as next
 use Rattle.swh_inputs.specs.declared.bad.InputFault.{InputFault}
 use Rattle.swh_inputs.specs.declared.bad.InputFault.TheVariants.{ReadFault}
 use Rattle.swh_inputs.specs.Input.{listing_text, BreaksBoth, MayBreakBoth, MeansInput, BreaksInput, MayBreakInput}
@@ -39,37 +39,37 @@ use Rattle.swh_inputs.specs.Reading.{GivesSo, IsReadFault, IsTold, told_of_strea
 
 module _ {N : Type 0} (id : Kind → List ℕ → List ℕ) where
   -- an input that gives nothing
-  abbrev bad_of : InputFault → Given N InputFault
-  bad_of fault = given.Bad fault
+  abbrev bad_of : InputFault → Next N InputFault
+  bad_of fault = next.Bad fault
 
   -- what is told holds of what is given
-  pub told_so : {E : Type 0} (r : Result (Given N InputFault) E) (told : Option InputFault) (P : Given N InputFault → Type 0) → IfOk r (IsTold told) → IfSome told (λ fault. P (bad_of fault)) → IfOk r P
+  pub told_so : {E : Type 0} (r : Result (Next N InputFault) E) (told : Option InputFault) (P : Next N InputFault → Type 0) → IfOk r (IsTold told) → IfSome told (λ fault. P (bad_of fault)) → IfOk r P
   told_so (Ok read) told P (fault, is, same) h =
       let there : P (bad_of fault) = subst (λ (x : Option InputFault). IfSome x (λ f. P (bad_of f))) is h in
       subst P (sym same) there
   told_so (Err e) told P is h = tt
 
-  pub told_whole : {E : Type 0} (r : Result (Given N InputFault) E) (told : Option InputFault) → IfOk r (IsTold told) → IfOk r (IsWhole id)
+  pub told_whole : {E : Type 0} (r : Result (Next N InputFault) E) (told : Option InputFault) → IfOk r (IsTold told) → IfOk r (IsWhole id)
   told_whole (Ok read) told (fault, is, same) = subst (IsWhole id) (sym same) tt
   told_whole (Err e) told is = tt
 
 -- A failure that a reader tells is told.
-heard : {N : Type 0} (r : Result (Given N InputFault) Memory) (told : Option InputFault) → IfOk r (IsTold told) → IfErr r (λ _. told ≡ None) → told ≡ Some ReadFault → IsReadFault r
+heard : {N : Type 0} (r : Result (Next N InputFault) Memory) (told : Option InputFault) → IfOk r (IsTold told) → IfErr r (λ _. told ≡ None) → told ≡ Some ReadFault → IsReadFault r
 heard (Ok read) told (fault, is, same) none e =
     let failed : fault ≡ ReadFault = cc in
-    ap Ok (same ∙ ap (λ (f : InputFault). given.Bad f) failed)
+    ap Ok (same ∙ ap (λ (f : InputFault). next.Bad f) failed)
 heard (Err m) told is none e = let no : None ≡ Some ReadFault = sym none ∙ e in absurd cc
 
 -- so a stream's is
-pub stream_heard : {N : Type 0} (r : Result (Given N InputFault) Memory) (fault : StreamFault) → IfOk r (IsTold (told_of_stream fault)) → IfErr r (λ _. told_of_stream fault ≡ None) → fault ≡ of_stream.ReadFault → IsReadFault r
+pub stream_heard : {N : Type 0} (r : Result (Next N InputFault) Memory) (fault : StreamFault) → IfOk r (IsTold (told_of_stream fault)) → IfErr r (λ _. told_of_stream fault ≡ None) → fault ≡ of_stream.ReadFault → IsReadFault r
 stream_heard r fault told none e = heard r (told_of_stream fault) told none (ap told_of_stream e)
 
 -- and a folder's
-pub folder_heard : {N : Type 0} (r : Result (Given N InputFault) Memory) (fault : DirFault) → IfOk r (IsTold (told_of_folder fault)) → IfErr r (λ _. told_of_folder fault ≡ None) → fault ≡ of_folder.ReadFault → IsReadFault r
+pub folder_heard : {N : Type 0} (r : Result (Next N InputFault) Memory) (fault : DirFault) → IfOk r (IsTold (told_of_folder fault)) → IfErr r (λ _. told_of_folder fault ≡ None) → fault ≡ of_folder.ReadFault → IsReadFault r
 folder_heard r fault told none e = heard r (told_of_folder fault) told none (ap told_of_folder e)
 
 -- and that of a batch or its refs
-pub batch_heard : {N : Type 0} (r : Result (Given N InputFault) Memory) (fault : BatchFault) → IfOk r (IsTold (told_of_batch fault)) → IfErr r (λ _. told_of_batch fault ≡ None) → fault ≡ of_batch.ReadFault → IsReadFault r
+pub batch_heard : {N : Type 0} (r : Result (Next N InputFault) Memory) (fault : BatchFault) → IfOk r (IsTold (told_of_batch fault)) → IfErr r (λ _. told_of_batch fault ≡ None) → fault ≡ of_batch.ReadFault → IsReadFault r
 batch_heard r fault told none e = heard r (told_of_batch fault) told none (ap told_of_batch e)
 
 module _ (N : Type 0) (id : Kind → List ℕ → List ℕ) where

@@ -28,7 +28,7 @@ use Rattle.swh_ingest.specs.Parts.{GaveSoFar, GaveSome, GaveAll, Broke, MayHaveG
 use Rattle.swh_ingest.proofs.SoFar.{so_far_keeps, some_keeps}
 use Rattle.swh_inputs.specs.Input.{InputText, BreaksInput, MayBreakInput, MeansInput}
 use Rattle.swh_inputs.specs.Input.InputText.{StreamText, FolderText, BatchText}
-use Rattle.swh_inputs.specs.Batching.{IsNextFault}
+use Rattle.swh_inputs.specs.Reading.{IsReadFault}
 use Rattle.swh_inputs.specs.Streaming.{AreMeantBy, IsNextOf, MayGiveInput}
 use Rattle.swh_inputs.specs.Reading.{told_of_stream}
 use Rattle.swh_inputs.specs.declared.bad.BadText.{BadText}
@@ -103,7 +103,7 @@ module _ {N : Type 0} (id : Kind → List ℕ → List ℕ) (tells : Type 0) (he
   given_quiet i objects now h (inr (snapshot, g)) = all_quiet i objects snapshot now h g
 
   -- Where it broke, a failure is told.
-  pub broke_quiet : ((i : StreamState) (found : Result (Next N InputFault) Memory) (now : StreamState) → Gives i found now → (IsNextFault found → ⊥) → now.standing.place.faults ≡ i.standing.place.faults)
+  pub broke_quiet : ((i : StreamState) (found : Result (Next N InputFault) Memory) (now : StreamState) → Gives i found now → (IsReadFault found → ⊥) → now.standing.place.faults ≡ i.standing.place.faults)
       → (i : StreamState) (bad : InputFault) (now : StreamState) → GoesOn id tells text faults path [] i → Broke Gives i bad now → (bad ≡ ReadFault → ⊥) → now.standing.place.faults ≡ faults
   broke_quiet hears i bad now h g untold = hears g.mid (Ok (next.Bad bad)) now g.gives (λ e. untold (let same : bad ≡ ReadFault = cc in same)) ∙ (so_far i g.front g.mid h g.so_far).quiet
 

@@ -11,11 +11,12 @@ use Rattle.swh_dirload.specs.declared.fault.DirFault.{DirFault}
 use Rattle.swh_dirload.specs.declared.fault.DirFault.TheVariants as of_folder
 use Rattle.swh_batchread.specs.declared.fault.BatchFault.{BatchFault}
 use Rattle.swh_batchread.specs.declared.fault.BatchFault.TheVariants as of_batch
-use Rattle.swh_ingest.specs.declared.input.Input.{Input as Given}
-use Rattle.swh_ingest.specs.declared.input.Input.TheVariants as given
+use Rattle.swh_ingest.specs.declared.input.Opening.TheVariants.{Found}
+use Rattle.swh_ingest.specs.declared.parts.Next.{Next}
+use Rattle.swh_ingest.specs.declared.parts.Next.TheVariants as next
 use Rattle.swh_inputs.specs.Input.{InputText, MeansInput, BreaksInput, MayBreakInput}
-use Rattle.swh_inputs.specs.Opening.{kind_of}
-use Rattle.swh_inputs.specs.Parts.{Parts, TellAll, text_of, HasFailed}
+use Rattle.swh_inputs.specs.Opening.{kind_of, opening_of}
+use Rattle.swh_inputs.specs.Parts.{Parts, TellAll, text_of, HasFailed, HasGoodHead}
 use Rattle.swh_inputs.specs.declared.bad.BadText.{BadText}
 use Rattle.swh_inputs.specs.declared.bad.BadText.TheVariants.{Stream, Batch, Name, Refs, NoObject, Other, Modes, Limit}
 use Rattle.swh_inputs.specs.declared.bad.InputFault.{InputFault}
@@ -28,29 +29,34 @@ module _ (id : Kind → List ℕ → List ℕ) (kind : VisitKind) (tells : Type 
     pub may : MayBreakInput kind bad
     pub breaks : tells → IfSome text (λ held. BreaksInput id held bad)
 
-  -- What was made is what this text means; or it breaks, or a count of faults rose.
-  abbrev pub GivesSo : {N : Type 0} → Type 0 → Given N InputFault → Type 0
-  GivesSo rose (given.Made objects) = tells → IfSome text (λ held. MeansInput id held (making_of objects))
-  GivesSo rose (given.Bad (Bad bad)) = BreaksSo bad
-  GivesSo rose (given.Bad ReadFault) = rose
+  -- All that was made is what this text means; or it breaks, or a count of faults rose.
+  abbrev pub GivesSo : {N : Type 0} → Type 0 → Next N InputFault → Type 0
+  GivesSo rose (next.Part objects) = ⊥
+  GivesSo rose (next.Last made) = tells → IfSome text (λ held. MeansInput id held (making_of made))
+  GivesSo rose (next.Bad (Bad bad)) = BreaksSo bad
+  GivesSo rose (next.Bad ReadFault) = rose
 
 module _ {S F : Type 0} (id : Kind → List ℕ → List ℕ) (p : Parts S F) (i : Input S F) where
   -- Some input of this kind may break so; and where all parts are found and tell what they hold, that does.
   abbrev pub BreaksLeft : BadText → Type 0
   BreaksLeft bad = BreaksSo id (kind_of i) (TellAll p i) (text_of p i) bad
 
-  -- What was made of the input, which is left as `now`, is what its parts mean, where they tell that; or it breaks so, or a
+  -- All that was made of the input, which is left as `now`, is what its parts mean, where they tell that; or it breaks so, or a
   -- count of faults of its parts rose.
-  abbrev pub IsRead : {N : Type 0} → Input S F → Given N InputFault → Type 0
+  abbrev pub IsRead : {N : Type 0} → Input S F → Next N InputFault → Type 0
   IsRead now read = GivesSo id (kind_of i) (TellAll p i) (text_of p i) (HasFailed p i now) read
 
+-- The input may be read: all of its parts were found, and a head that is named for it is a ref.
+abbrev pub MayBeRead : {S F : Type 0} → Input S F → Type 0
+MayBeRead i = (opening_of i ≡ Found) × HasGoodHead i
+
 -- It is told that a part of the input failed.
-abbrev pub IsReadFault : {N : Type 0} → Result (Given N InputFault) Memory → Type 0
-IsReadFault found = found ≡ Ok (given.Bad ReadFault)
+abbrev pub IsReadFault : {N : Type 0} → Result (Next N InputFault) Memory → Type 0
+IsReadFault found = found ≡ Ok (next.Bad ReadFault)
 
 -- What is given is why there is nothing, where that is told.
-abbrev pub IsTold : {N : Type 0} → Option InputFault → Given N InputFault → Type 0
-IsTold told read = (fault : InputFault) × (told ≡ Some fault) × (read ≡ given.Bad fault)
+abbrev pub IsTold : {N : Type 0} → Option InputFault → Next N InputFault → Type 0
+IsTold told read = (fault : InputFault) × (told ≡ Some fault) × (read ≡ next.Bad fault)
 
 -- what is told of a stream's faults; of want of memory nothing
 abbrev pub told_of_stream : StreamFault → Option InputFault

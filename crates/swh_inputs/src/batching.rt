@@ -4,8 +4,9 @@ ghost use Rattle.swh_base.specs.declared.entry.Entry.{Entry};
 ghost use Rattle.swh_outside.specs.Views.{sources};
 ghost use Rattle.swh_batchread.specs.Giving.{GoesOn};
 ghost use Rattle.swh_ingest.specs.Parts.{IsMore};
-ghost use Rattle.swh_inputs.specs.Batching.{AreQuiet, BatchCameOn, BatchMayGoOn, IsNextFault, IsNextOfBatch};
+ghost use Rattle.swh_inputs.specs.Batching.{AreQuiet, BatchCameOn, BatchMayGoOn, IsNextOfBatch};
 ghost use Rattle.swh_inputs.specs.Parts.{IsSameSource};
+ghost use Rattle.swh_inputs.specs.Reading.{IsReadFault};
 
 use crate::bad::InputFault;
 use crate::reading::fault_of_batch;
@@ -55,7 +56,7 @@ pub fn next_of_batch<N: Namer, S: Source>(
     ensures quiet { (source : _) (others : _) (given : List Entry)
         → GoesOn N.id_of (sources S.tells S.left S.faults S.path) source others given
         input.old.parts input.old.objects.now input.old.refs.now
-        → (IsNextFault result → ⊥) → AreQuiet (sources S.tells S.left S.faults S.path) source others
+        → (IsReadFault result → ⊥) → AreQuiet (sources S.tells S.left S.faults S.path) source others
         input.new.objects.now input.new.refs.now }
     ensures on { IfOk result (λ next. IsMore next → BatchCameOn input.old.parts input.new.parts) }
     ensures same_reference { input.new.objects.ghost_name ≡ input.old.objects.ghost_name }

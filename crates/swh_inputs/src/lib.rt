@@ -20,5 +20,5 @@ pub use bad::{BadText, InputFault};
 pub use batching::{BatchByParts, BatchInput, next_of_batch};
 pub use input::Input;
 pub use laws::{given_is_meant, one_break, one_meaning};
-pub use reading::read_input;
+pub use reading::{WholeInput, read_input};
 pub use streaming::{StreamByParts, next_of_stream};

@@ -6,7 +6,7 @@ ghost use Rattle.swh_outside.specs.Faults.{Rose};
 ghost use Rattle.swh_outside.specs.Views.{sources};
 ghost use Rattle.swh_outside.specs.declared.fault.Opened.TheVariants.{Found as Here};
 ghost use Rattle.std.specs.Option.{option_copied};
-ghost use Rattle.swh_ingest.specs.Loading.{IsWhole};
+ghost use Rattle.swh_ingest.specs.Parts.{IsWhole};
 ghost use Rattle.swh_ingest.specs.declared.input.Opening.TheVariants.{Found};
 ghost use Rattle.swh_inputs.specs.Input.InputText.{StreamText, FolderText, BatchText};
 ghost use Rattle.swh_inputs.specs.declared.input.Input.TheVariants.{Dir as DirInput};
@@ -22,7 +22,7 @@ use swh_base::{Bytes, Memory, Namer};
 use swh_batchread::{BatchFault, read_batch, read_refs};
 use swh_dirload::{DirFault, load_folder};
 use swh_fastload::{BadStream, InputFault as StreamFault, load_source};
-use swh_ingest::Input as Given;
+use swh_ingest::{Next, SaidOfParts};
 use swh_outside::{Folder, Opened, Source};
 
 /// The fault of an input for one of its stream.
@@ -43,18 +43,18 @@ pub fn fault_of_stream(fault: StreamFault) -> Result<InputFault, Memory>
 }
 
 /// What is told of a stream's faults.
-fn told_of_stream<N: Namer>(fault: StreamFault) -> Result<Given<N, InputFault>, Memory>
+fn told_of_stream<N: Namer>(fault: StreamFault) -> Result<Next<N, InputFault>, Memory>
     ensures told { IfOk result (IsTold (told_of_stream fault)) }
     ensures memory { IfErr result (λ _. told_of_stream fault ≡ None) }
 {
     match fault_of_stream(fault) {
-        Ok(fault) => Ok(Given::Bad(fault)),
+        Ok(fault) => Ok(Next::Bad(fault)),
         Err(fault) => Err(fault),
     }
 }
 
 /// What is told of the faults of a folder and its listing.
-fn told_of_folder<N: Namer>(fault: DirFault) -> Result<Given<N, InputFault>, Memory>
+fn told_of_folder<N: Namer>(fault: DirFault) -> Result<Next<N, InputFault>, Memory>
     ensures told { IfOk result (IsTold (told_of_folder fault)) }
     ensures memory { IfErr result (λ _. told_of_folder fault ≡ None) }
 {
@@ -65,7 +65,7 @@ fn told_of_folder<N: Namer>(fault: DirFault) -> Result<Given<N, InputFault>, Mem
         DirFault::ReadFault => InputFault::ReadFault,
         DirFault::Memory => return Err(Memory),
     };
-    Ok(Given::Bad(fault))
+    Ok(Next::Bad(fault))
 }
 
 /// The fault of an input for one of its batch or refs.
@@ -87,12 +87,12 @@ pub fn fault_of_batch(fault: BatchFault) -> Result<InputFault, Memory>
 }
 
 /// What is told of the faults of a batch and its refs.
-fn told_of_batch<N: Namer>(fault: BatchFault) -> Result<Given<N, InputFault>, Memory>
+fn told_of_batch<N: Namer>(fault: BatchFault) -> Result<Next<N, InputFault>, Memory>
     ensures told { IfOk result (IsTold (told_of_batch fault)) }
     ensures memory { IfErr result (λ _. told_of_batch fault ≡ None) }
 {
     match fault_of_batch(fault) {
-        Ok(fault) => Ok(Given::Bad(fault)),
+        Ok(fault) => Ok(Next::Bad(fault)),
         Err(fault) => Err(fault),
     }
 }
@@ -113,7 +113,7 @@ fn read_stream<N: Namer, S: Source>(
     namer: &N,
     source: &mut S,
     head: &Option<Bytes>,
-) -> Result<Given<N, InputFault>, Memory>
+) -> Result<Next<N, InputFault>, Memory>
     requires { IfSome head.now IsRef }
     ensures read { IfOk result (GivesSo N.id_of Fast S.tells (Some (StreamText head.now (S.left source.old)))
         (Rose (S.faults source.old) (S.faults source.new))) }
@@ -122,7 +122,7 @@ fn read_stream<N: Namer, S: Source>(
     ensures quiet { (IsReadFault result → ⊥) → IsQuietOf S.faults source.old source.new }
 {
     match load_source(alloc, namer, head_of(head), source) {
-        Ok(objects) => Ok(Given::Made(objects)),
+        Ok(objects) => Ok(Next::Last(objects)),
         Err(fault) => told_of_stream(fault),
     }
 }
@@ -132,7 +132,7 @@ fn read_plain<'a, N: Namer, S: Source + 'a, F: Folder>(
     alloc: Global,
     namer: &N,
     folder: &'a mut F,
-) -> Result<Given<N, InputFault>, Memory>
+) -> Result<Next<N, InputFault>, Memory>
     ensures read { IfOk result (GivesSo N.id_of Dir F.tells (Some (FolderText (F.holds folder.old) None))
         (Rose (F.faults folder.old) (F.faults folder.new))) }
     ensures whole { IfOk result (IsWhole N.id_of) }
@@ -141,7 +141,7 @@ fn read_plain<'a, N: Namer, S: Source + 'a, F: Folder>(
 {
     let none: Option<&'a mut S> = None;
     match load_folder(alloc, namer, folder, none) {
-        Ok(objects) => Ok(Given::Made(objects)),
+        Ok(objects) => Ok(Next::Last(objects)),
         Err(fault) => told_of_folder(fault),
     }
 }
@@ -152,7 +152,7 @@ fn read_listed<N: Namer, S: Source, F: Folder>(
     namer: &N,
     folder: &mut F,
     source: &mut S,
-) -> Result<Given<N, InputFault>, Memory>
+) -> Result<Next<N, InputFault>, Memory>
     ensures read { IfOk result (GivesSo N.id_of Dir (F.tells × S.tells)
         (Some (FolderText (F.holds folder.old) (Some (S.left source.old))))
         (Rose (F.faults folder.old) (F.faults folder.new) ⊎ Rose (S.faults source.old) (S.faults source.new))) }
@@ -163,7 +163,7 @@ fn read_listed<N: Namer, S: Source, F: Folder>(
     ensures quiet_source { (IsReadFault result → ⊥) → IsQuietOf S.faults source.old source.new }
 {
     match load_folder(alloc, namer, folder, Some(source)) {
-        Ok(objects) => Ok(Given::Made(objects)),
+        Ok(objects) => Ok(Next::Last(objects)),
         Err(fault) => told_of_folder(fault),
     }
 }
@@ -174,7 +174,7 @@ fn read_both<N: Namer, S: Source>(
     namer: &N,
     objects: &mut S,
     refs: &mut S,
-) -> Result<Given<N, InputFault>, Memory>
+) -> Result<Next<N, InputFault>, Memory>
     ensures read { IfOk result (GivesSo N.id_of Batch S.tells
         (Some (BatchText (S.left objects.old) (S.left refs.old)))
         (Rose (S.faults objects.old) (S.faults objects.new) ⊎ Rose (S.faults refs.old) (S.faults refs.new))) }
@@ -189,7 +189,7 @@ fn read_both<N: Namer, S: Source>(
         Err(fault) => return told_of_batch(fault),
     };
     match read_refs(alloc, namer, refs, of_batch) {
-        Ok(made) => Ok(Given::Made(made)),
+        Ok(made) => Ok(Next::Last(made)),
         Err(fault) => told_of_batch(fault),
     }
 }
@@ -200,7 +200,7 @@ fn read_fast<N: Namer, S: Source>(
     namer: &N,
     stream: &mut Opened<S>,
     head: &Option<Bytes>,
-) -> Result<Given<N, InputFault>, Memory>
+) -> Result<Next<N, InputFault>, Memory>
     requires found { found_as stream.old ≡ Found }
     requires head { IfSome head.now IsRef }
     ensures read { IfOk result (GivesSo N.id_of Fast S.tells (option_map (StreamText head.now) (given S.left stream.old))
@@ -221,7 +221,7 @@ fn read_dir<N: Namer, S: Source, F: Folder>(
     namer: &N,
     folder: &mut F,
     modes: &mut Option<Opened<S>>,
-) -> Result<Given<N, InputFault>, Memory>
+) -> Result<Next<N, InputFault>, Memory>
     requires { listing_found modes.old ≡ Found }
     ensures read { IfOk result (IsRead N.id_of (parts (sources S.tells S.left S.faults S.path)
         (folders F.tells F.holds F.faults F.opened_at)) (DirInput (Here folder.old) modes.old)
@@ -245,7 +245,7 @@ fn read_opened<N: Namer, S: Source, F: Folder>(
     namer: &N,
     folder: &mut Opened<F>,
     modes: &mut Option<Opened<S>>,
-) -> Result<Given<N, InputFault>, Memory>
+) -> Result<Next<N, InputFault>, Memory>
     requires { found_first (found_as folder.old) (listing_found modes.old) ≡ Found }
     ensures read { IfOk result (IsRead N.id_of (parts (sources S.tells S.left S.faults S.path)
         (folders F.tells F.holds F.faults F.opened_at)) (DirInput folder.old modes.old)
@@ -268,7 +268,7 @@ fn read_behind<N: Namer, S: Source>(
     namer: &N,
     objects: &mut S,
     refs: &mut Opened<S>,
-) -> Result<Given<N, InputFault>, Memory>
+) -> Result<Next<N, InputFault>, Memory>
     requires { found_as refs.old ≡ Found }
     ensures read { IfOk result (GivesSo N.id_of Batch S.tells
         (both_given BatchText (Some (S.left objects.old)) (given S.left refs.old))
@@ -291,7 +291,7 @@ fn read_pair<N: Namer, S: Source>(
     namer: &N,
     objects: &mut Opened<S>,
     refs: &mut Opened<S>,
-) -> Result<Given<N, InputFault>, Memory>
+) -> Result<Next<N, InputFault>, Memory>
     requires { found_first (found_as objects.old) (found_as refs.old) ≡ Found }
     ensures read { IfOk result (GivesSo N.id_of Batch S.tells
         (both_given BatchText (given S.left objects.old) (given S.left refs.old))
@@ -317,7 +317,7 @@ pub fn read_input<N: Namer, S: Source, F: Folder>(
     alloc: Global,
     namer: &N,
     input: &mut Input<S, F>,
-) -> Result<Given<N, InputFault>, Memory>
+) -> Result<Next<N, InputFault>, Memory>
     requires found { opening_of input.old ≡ Found }
     requires head { HasGoodHead input.old }
     // What is made is what the input means; or it breaks so, or a part of it failed in this call.
@@ -337,4 +337,16 @@ pub fn read_input<N: Namer, S: Source, F: Folder>(
         Input::Dir { folder, modes } => read_opened(alloc, namer, folder, modes),
         Input::Batch { objects, refs } => read_pair(alloc, namer, objects, refs),
     }
+}
+
+/// What is said of an input that is read whole: it may be read where it was found, and nothing comes behind what is read.
+#[derive(Clone, Copy, Debug)]
+pub struct WholeInput;
+
+impl<S, F> SaidOfParts<Input<S, F>> for WholeInput {
+    ghost use Rattle.swh_inputs.specs.Reading.{MayBeRead};
+
+    ghost ready = { λ i. MayBeRead i };
+
+    ghost left = { λ i. 0 };
 }

@@ -4,7 +4,7 @@ ghost use Rattle.swh_base.specs.Text.{IsRef};
 ghost use Rattle.swh_base.specs.declared.entry.Entry.{Entry};
 ghost use Rattle.swh_fastload.specs.Giving.{GoesOn};
 ghost use Rattle.swh_ingest.specs.Parts.{IsMore};
-ghost use Rattle.swh_inputs.specs.Batching.{IsNextFault};
+ghost use Rattle.swh_inputs.specs.Reading.{IsReadFault};
 ghost use Rattle.swh_inputs.specs.Streaming.{CameOn, IsNextOf};
 
 use crate::bad::InputFault;
@@ -41,7 +41,7 @@ pub fn next_of_stream<N: Namer, S: Source>(
         → GoesOn N.id_of S.tells text faults path given parts.old
         → IfOk result (IsNextOf N.id_of S.tells head.now text faults path given parts.new) }
     // Nothing fails unheard: where it is not told that the source failed, it did not.
-    ensures quiet { (IsNextFault result → ⊥)
+    ensures quiet { (IsReadFault result → ⊥)
         → parts.new.standing.place.faults ≡ parts.old.standing.place.faults }
     ensures on { IfOk result (λ next. IsMore next → CameOn parts.old parts.new) }
     ensures within { parts.old.standing.place.at ≤ 2 ^ 33 }

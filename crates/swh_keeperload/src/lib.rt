@@ -7,12 +7,10 @@
 
 mod fitting;
 mod keeping;
-mod loading;
 mod loading_parts;
 mod protocol;
 mod refusing;
 
 pub use keeping::{body_in, carry_out, certificate_in, standing_in};
-pub use loading::load_kept;
 pub use loading_parts::load_kept_parts;
 pub use protocol::Alone;

@@ -26,7 +26,8 @@ use Rattle.swh_keeperload.specs.Loading.{AddsVisit, EndsVisit, IsHeldBack, Makes
 use Rattle.swh_inputs.specs.Input.{InputText}
 use Rattle.swh_inputs.specs.Input.InputText.{BatchText}
 use Rattle.swh_inputs.specs.Parts.{Parts, IsQuiet}
-use Rattle.swh_inputs.specs.Batching.{AreQuiet, BatchCameOn, BatchMayGoOn, IsNextFault, IsNextOfBatch}
+use Rattle.swh_inputs.specs.Batching.{AreQuiet, BatchCameOn, BatchMayGoOn, IsNextOfBatch}
+use Rattle.swh_inputs.specs.Reading.{IsReadFault}
 use Rattle.swh_inputs.specs.declared.bad.InputFault.{InputFault}
 use Rattle.swh_inputs.specs.declared.bad.InputFault.TheVariants as fault
 use Rattle.swh_inputs.specs.declared.input.Input.{Input}
@@ -91,7 +92,7 @@ module _ {S F I N : Type 0} (id : Kind → List ℕ → List ℕ) (p : Parts S F
 
     -- Where reading on tells each failure, so does the load.
     module _ (hears : (a : I) (found : Result (Next N InputFault) Memory) (now : I) (given : List Entry) → Gives a found now → GoesOn id p.sources (objects_of i) (refs_of i) given (state a) (objects_of a) (refs_of a)
-        → (IsNextFault found → ⊥) → AreQuiet p.sources (objects_of i) (refs_of i) (objects_of now) (refs_of now)) where
+        → (IsReadFault found → ⊥) → AreQuiet p.sources (objects_of i) (refs_of i) (objects_of now) (refs_of now)) where
       quiet_input : (now : I) → AreQuiet p.sources (objects_of i) (refs_of i) (objects_of now) (refs_of now) → IsQuiet p (input i) (input now)
       quiet_input now h = (h.quiet, h.quiet_refs)
 

@@ -1,6 +1,5 @@
--- What a load leaves, by what reading its input gave.
-use Rattle.std.proofs.Common.{◌≡◌, inl, inr, ℕ, ◌≤◌, Result, Ok, Option, Some, None, List, [], ◌∷◌, length, refl, sym, ap, subst, le_refl, arith}
-use Rattle.std.specs.Prelude.{IfSome}
+-- What a load leaves, whatever its input.
+use Rattle.std.proofs.Common.{◌≡◌, ℕ, ◌≤◌, Option, Some, None, List, [], ◌∷◌, length, refl, sym, subst, le_refl, arith}
 use Rattle.std.specs.List.{AllByRecursion}
 use Rattle.swh_base.specs.declared.kind.Kind.{Kind}
 use Rattle.swh_base.specs.declared.entry.Entry.{Entry}
@@ -10,23 +9,15 @@ use Rattle.swh_base.specs.Limits.{path_limit}
 use Rattle.swh_outside.specs.declared.fault.Opened.{Opened}
 use Rattle.swh_outside.specs.declared.fault.Opened.TheVariants as opened
 use Rattle.swh_model.specs.Archive.{Bodies}
-use Rattle.swh_dedup.specs.declared.objects.Objects.{Objects}
-use Rattle.swh_dedup.specs.Whole.{HasAllThatIsReached}
-use Rattle.swh_fastload.specs.Loaded.{making_of}
 use Rattle.swh_ingest.specs.declared.end.End as walk
 use Rattle.swh_ingest.specs.declared.end.End.TheVariants.{Full, NotFound, Unread, Bad, Met}
-use Rattle.swh_ingest.specs.declared.input.Input.{Input as Given}
-use Rattle.swh_ingest.specs.declared.input.Input.TheVariants as given
 use Rattle.swh_ingest.specs.declared.input.Opening.{Opening}
 use Rattle.swh_ingest.specs.declared.input.Opening.TheVariants as opening
 use Rattle.swh_ingest.specs.Loading as walking
 use Rattle.swh_ingest.specs.Owning.{AreAmong}
-use Rattle.swh_ingest.proofs.Closes.{whole_good}
-use Rattle.swh_inputs.specs.Input.{InputText, MeansInput, MayBreakInput}
+use Rattle.swh_inputs.specs.Input.{InputText, MayBreakInput}
 use Rattle.swh_inputs.specs.Opening.{kind_of, opening_of}
-use Rattle.swh_inputs.specs.Parts.{Parts, text_of, IsQuiet, IsQuietOf, IsSameInput, IsSamePart, IsSameListing, IsSameSource, IsSameFolder}
-use Rattle.swh_inputs.specs.Reading.{IsRead}
-use Rattle.swh_inputs.proofs.Streamings.{meant_given}
+use Rattle.swh_inputs.specs.Parts.{Parts, IsQuiet, IsQuietOf, IsSameInput, IsSamePart, IsSameListing, IsSameSource, IsSameFolder}
 use Rattle.swh_inputs.specs.declared.bad.BadText.{BadText}
 use Rattle.swh_inputs.specs.declared.bad.BadText.TheVariants as broken
 use Rattle.swh_inputs.specs.declared.bad.InputFault.{InputFault}
@@ -36,8 +27,7 @@ use Rattle.swh_inputs.specs.declared.input.Input.TheVariants.{Fast, Dir, Batch}
 use Rattle.swh_loader.specs.declared.end.BadInput.TheVariants.{Broken, Collision, Read}
 use Rattle.swh_loader.specs.declared.end.End.{End}
 use Rattle.swh_loader.specs.declared.end.End.TheVariants as reported
-use Rattle.swh_loader.specs.Ending.{MeansObjects, MayGiveObjects, IsGivenBy, AreGivenBy, IsEndOf, IsEndAt, IsJobEnd, IsQuietEnd, end_for, statuses_of}
-use Rattle.swh_loader.specs.Leaving.{AreAllowed, AreAllowedAt}
+use Rattle.swh_loader.specs.Ending.{MayGiveObjects, IsGivenBy, IsEndOf, IsEndAt, IsJobEnd, IsQuietEnd, end_for, statuses_of}
 use Rattle.swh_loader.specs.Report.{detail_limit, end_room, text_room}
 
 -- the statuses of an end are those of its report
@@ -53,11 +43,6 @@ same_statuses (Met name) = refl
 pub given_by : (id : Kind → List ℕ → List ℕ) (text : InputText) (objects : List Entry) → MayGiveObjects id text objects → (entries : List Entry) → AreAmong objects entries → AllByRecursion (IsGivenBy id text) entries
 given_by id text objects may [] h = tt
 given_by id text objects may (e ∷ entries) h = (record { objects = objects; may = may; among = h.0 }, given_by id text objects may entries h.1)
-
--- what is said of a text that is told
-told_as : (text : Option InputText) (P Q : InputText → Type 0) → ((held : InputText) → P held → Q held) → IfSome text P → IfSome text Q
-told_as (Some text) P Q f h = f text h
-told_as None P Q f h = h
 
 -- How long the detail of an input that breaks so may be.
 text_short : (of_kind : VisitKind) (bad : BadText) → MayBreakInput of_kind bad → text_room bad ≤ detail_limit of_kind
@@ -116,7 +101,7 @@ module _ {S F : Type 0} (p : Parts S F) where
   as_it_was (Batch objects refs) = (part_as_it_was (IsSameSource p.sources) same_source objects, part_as_it_was (IsSameSource p.sources) same_source refs)
 
   -- what is as it was did not fail
-  quiet_as_it_was : (i : Input S F) → IsQuiet p i i
+  pub quiet_as_it_was : (i : Input S F) → IsQuiet p i i
   quiet_as_it_was (Fast stream head) = part_as_it_was (IsQuietOf p.sources.faults) (λ s. refl) stream
   quiet_as_it_was (Dir folder modes) = (part_as_it_was (IsQuietOf p.folders.faults) (λ f. refl) folder, listing_as_it_was (IsQuietOf p.sources.faults) (λ s. refl) modes)
   quiet_as_it_was (Batch objects refs) = (part_as_it_was (IsQuietOf p.sources.faults) (λ s. refl) objects, part_as_it_was (IsQuietOf p.sources.faults) (λ s. refl) refs)
@@ -143,77 +128,3 @@ module _ {S F : Type 0} (id : Kind → List ℕ → List ℕ) (p : Parts S F) wh
 
   pub job_short : (bodies : Bodies) (i now : Input S F) (end : End) → IsJobEnd id p bodies i now end → end_room end ≤ detail_limit (kind_of i)
   job_short bodies i now end h = short_at (opening_of i) bodies i now end h
-
-module _ {S F N : Type 0} (id : Kind → List ℕ → List ℕ) (p : Parts S F) where
-  -- the objects that were made are meant
-  means_made : (text : InputText) (made : Objects N) → HasAllThatIsReached id made → MeansInput id text (making_of made) → MeansObjects id text made.objects.items made.snapshot
-  means_made text made w m = record { meaning = m; good = whole_good id made.objects.items w.objects.each }
-
-  -- which the input may give
-  given_made : (text : InputText) (made : Objects N) → HasAllThatIsReached id made → MeansInput id text (making_of made) → MayGiveObjects id text made.objects.items
-  given_made text made w m = record { given = meant_given id text (making_of made) m; good = whole_good id made.objects.items w.objects.each }
-
-  -- some of what was made is given by the input
-  among_read : (i now : Input S F) (x : Given N InputFault) → IsRead id p i now x → walking.IsWhole id x → (entries : List Entry) → walking.AreOf x entries → AreGivenBy id p i entries
-  among_read i now (given.Made made) r w entries are = λ told.
-      told_as (text_of p i) (λ text. MeansInput id text (making_of made)) (λ text. AllByRecursion (IsGivenBy id text) entries)
-      (λ text m. given_by id text made.objects.items (given_made text made w m) entries are) (r told)
-  among_read i now (given.Bad bad) r w entries are = absurd are
-
-  -- the end of a load whose input was read
-  read_end : (bodies : Bodies) (i now : Input S F) (x : Given N InputFault) (end : walk.End InputFault) → IsRead id p i now x → walking.IsWhole id x → walking.IsEndOf bodies x end → IsEndOf id p bodies i now (end_for end)
-  read_end bodies i now (given.Made made) (Full snapshot) r w h = λ told.
-      told_as (text_of p i) (λ text. MeansInput id text (making_of made)) _
-      (λ text m. record { objects = made.objects.items; means = subst (MeansObjects id text made.objects.items) (sym h.0) (means_made text made w m); held = h.1 }) (r told)
-  read_end bodies i now (given.Made made) (Met name) r w h = λ told.
-      told_as (text_of p i) (λ text. MeansInput id text (making_of made)) _
-      (λ text m. record { objects = made.objects.items; may = given_made text made w m; collision = h }) (r told)
-  read_end bodies i now (given.Made made) NotFound r w h = absurd h
-  read_end bodies i now (given.Made made) Unread r w h = absurd h
-  read_end bodies i now (given.Made made) (Bad bad) r w h = absurd h
-  read_end bodies i now (given.Bad (fault.Bad bad)) end r w h = subst (λ (e : walk.End InputFault). IsEndOf id p bodies i now (end_for e)) (sym h) r
-  read_end bodies i now (given.Bad fault.ReadFault) end r w h = subst (λ (e : walk.End InputFault). IsEndOf id p bodies i now (end_for e)) (sym h) r
-
-  -- where nothing failed unheard
-  read_quiet : (bodies : Bodies) (i now : Input S F) (x : Given N InputFault) (end : walk.End InputFault) → ((x ≡ given.Bad fault.ReadFault → ⊥) → IsQuiet p i now) → walking.IsEndOf bodies x end → IsQuietEnd p i now (end_for end)
-  read_quiet bodies i now (given.Made made) (Full snapshot) quiet h = quiet (λ e. absurd cc)
-  read_quiet bodies i now (given.Made made) (Met name) quiet h = quiet (λ e. absurd cc)
-  read_quiet bodies i now (given.Made made) NotFound quiet h = absurd h
-  read_quiet bodies i now (given.Made made) Unread quiet h = absurd h
-  read_quiet bodies i now (given.Made made) (Bad bad) quiet h = absurd h
-  read_quiet bodies i now (given.Bad bad) end quiet h = subst (λ (e : walk.End InputFault). IsQuietEnd p i now (end_for e)) (sym h) (broken_quiet p i now bad (λ untold. quiet (λ e. untold (let same : bad ≡ fault.ReadFault = cc in same))))
-
-  -- What reading an input answers.
-  module _ {E : Type 0} (Reads : Input S F → Result (Given N InputFault) E → Input S F → Type 0) (read : (i now : Input S F) (x : Given N InputFault) → Reads i (Ok x) now → IsRead id p i now x)
-      (whole : (i now : Input S F) (x : Given N InputFault) → Reads i (Ok x) now → walking.IsWhole id x) (same : (i now : Input S F) (r : Result (Given N InputFault) E) → Reads i r now → IsSameInput p i now) where
-    allowed_at : (o : Opening) (i : Input S F) (entries : List Entry) → walking.AreAllowed Reads o i entries → AreAllowedAt id p i o entries
-    allowed_at opening.Found i entries are = among_read i are.now are.given (read i are.now are.given are.read) (whole i are.now are.given are.read) entries are.are_of
-    allowed_at opening.NotFound i entries are = absurd are
-    allowed_at opening.Failed i entries are = absurd are
-    allowed_at opening.Memory i entries are = absurd are
-
-    pub allowed : (i : Input S F) (entries : List Entry) → walking.AreAllowed Reads (opening_of i) i entries → AreAllowed id p i entries
-    allowed i entries are = allowed_at (opening_of i) i entries are
-
-    end_at : (o : Opening) (bodies : Bodies) (i now : Input S F) (end : walk.End InputFault) → walking.IsEndAt Reads o bodies i now end → IsEndAt id p bodies o i now (end_for end)
-    end_at opening.Found bodies i now end h = read_end bodies i now h.given end (read i now h.given h.read) (whole i now h.given h.read) h.is_end
-    end_at opening.NotFound bodies i now end h = ap (λ (e : walk.End InputFault). end_for e) h.0
-    end_at opening.Failed bodies i now end h = ap (λ (e : walk.End InputFault). end_for e) h.0
-    end_at opening.Memory bodies i now end h = absurd h
-
-    pub job_end : (bodies : Bodies) (i now : Input S F) (end : walk.End InputFault) → walking.IsEndAt Reads (opening_of i) bodies i now end → IsJobEnd id p bodies i now (end_for end)
-    job_end bodies i now end h = end_at (opening_of i) bodies i now end h
-
-    module _ (quiet : (i now : Input S F) (x : Given N InputFault) → Reads i (Ok x) now → (x ≡ given.Bad fault.ReadFault → ⊥) → IsQuiet p i now) where
-      quiet_at : (o : Opening) (bodies : Bodies) (i now : Input S F) (end : walk.End InputFault) → walking.IsEndAt Reads o bodies i now end → IsQuietEnd p i now (end_for end)
-      quiet_at opening.Found bodies i now end h = read_quiet bodies i now h.given end (quiet i now h.given h.read) h.is_end
-      quiet_at opening.NotFound bodies i now end h = subst (λ (e : walk.End InputFault). IsQuietEnd p i now (end_for e)) (sym h.0) (subst (IsQuiet p i) (sym h.1) (quiet_as_it_was p i))
-      quiet_at opening.Failed bodies i now end h = subst (λ (e : walk.End InputFault). IsQuietEnd p i now (end_for e)) (sym h.0) tt
-      quiet_at opening.Memory bodies i now end h = absurd h
-
-      pub job_quiet : (bodies : Bodies) (i now : Input S F) (end : walk.End InputFault) → walking.IsEndAt Reads (opening_of i) bodies i now end → IsQuietEnd p i now (end_for end)
-      job_quiet bodies i now end h = quiet_at (opening_of i) bodies i now end h
-
-    pub same_input : (i now : Input S F) → walking.IsSameOrRead Reads (opening_of i) i now → IsSameInput p i now
-    same_input i now (inl is) = subst (IsSameInput p i) (sym is) (as_it_was p i)
-    same_input i now (inr was) = same i now was.result was.read

@@ -7,3 +7,4 @@ pub mod Missing
 pub mod Room
 mod Outcomes
 mod Streams
+mod Wholes

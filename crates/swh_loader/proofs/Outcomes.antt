@@ -12,8 +12,6 @@ use Rattle.swh_keeper.specs.Kept.{Kept}
 use Rattle.swh_ingest.specs.declared.end.End as walk
 use Rattle.swh_ingest.specs.declared.end.Loaded.{Loaded}
 use Rattle.swh_ingest.specs.declared.end.LoadFault.{LoadFault}
-use Rattle.swh_ingest.specs.declared.input.Input.{Input as Given}
-use Rattle.swh_ingest.specs.declared.input.Input.TheVariants as given
 use Rattle.swh_ingest.specs.declared.stop.Stop.TheVariants.{Memory}
 use Rattle.swh_ingest.specs.Loading as walking
 use Rattle.swh_ingest.specs.Owning.{Attempt}
@@ -21,15 +19,12 @@ use Rattle.swh_ingest.specs.Visiting.{next_visit}
 use Rattle.swh_keeperload.specs.Loading.{AddsVisit, AreOfVisit, EndsVisit, IsHeldBack, MakesVisitCalls, NoCountFell, Stops}
 use Rattle.swh_keeperload.proofs.Allowing.{adds_visit, visit_calls, stops_as}
 use Rattle.swh_keeperload.proofs.Calls.{same_calls}
-use Rattle.swh_inputs.specs.Opening.{opening_of}
-use Rattle.swh_inputs.specs.Parts.{Parts, IsQuiet, IsSameInput}
-use Rattle.swh_inputs.specs.Reading.{IsRead}
+use Rattle.swh_inputs.specs.Parts.{Parts, IsSameInput}
 use Rattle.swh_inputs.specs.declared.bad.InputFault.{InputFault}
-use Rattle.swh_inputs.specs.declared.bad.InputFault.TheVariants.{ReadFault}
 use Rattle.swh_inputs.specs.declared.input.Input.{Input}
 use Rattle.swh_loader.specs.Ending.{IsJobEnd, IsQuietEnd, end_for, held_bodies, outcome_for}
 use Rattle.swh_loader.specs.Leaving.{AreAllowed, IsLoadOf}
-use Rattle.swh_loader.proofs.Leaves.{allowed, as_it_was, job_end, job_quiet, job_short, same_input, same_statuses}
+use Rattle.swh_loader.proofs.Leaves.{as_it_was, job_short, same_statuses}
 
 module _ {S F D : Type 0} (id : Kind → List ℕ → List ℕ) (p : Parts S F) (disks : Disks D) (a : Attempt) where
   -- `P` holds of what the walk may have sent, and `E` of the end of its visit.
@@ -82,14 +77,3 @@ module _ {S F D : Type 0} (id : Kind → List ℕ → List ℕ) (p : Parts S F) 
     later = record { store = le_refl (disks.faults k.store); ledger = le_refl (disks.faults k.ledger) };
     same = as_it_was p i;
   }
-
--- A load of an input that is read at once, by what reading it answers.
-module _ {S F D N E : Type 0} (id : Kind → List ℕ → List ℕ) (p : Parts S F) (Reads : Input S F → Result (Given N InputFault) E → Input S F → Type 0)
-    (read : (i now : Input S F) (x : Given N InputFault) → Reads i (Ok x) now → IsRead id p i now x) (whole : (i now : Input S F) (x : Given N InputFault) → Reads i (Ok x) now → walking.IsWhole id x)
-    (same : (i now : Input S F) (r : Result (Given N InputFault) E) → Reads i r now → IsSameInput p i now) (quiet : (i now : Input S F) (x : Given N InputFault) → Reads i (Ok x) now → (x ≡ given.Bad ReadFault → ⊥) → IsQuiet p i now) (disks : Disks D) (a : Attempt) (i now : Input S F) (old new : Kept D) where
-  pub once_load : (result : Result (Loaded InputFault) LoadFault) → IfOk result (λ loaded. EndsVisit a old new loaded.visit (walking.statuses_of loaded.end)) → IfOk result (λ loaded. walking.IsEndAt Reads (opening_of i) (held_bodies new) i now loaded.end)
-      → AddsVisit (walking.AreAllowed Reads (opening_of i) i) a old.history new.history → (disks.tells → MakesVisitCalls id disks (walking.AreAllowed Reads (opening_of i) i) a old new) → ((n : ℕ) → old.wounded ≡ Some n → IsHeldBack old new result)
-      → IfErr result (Stops id disks (walking.AreAllowed Reads (opening_of i) i) a old new) → NoCountFell disks old new → walking.IsSameOrRead Reads (opening_of i) i now → IsLoadOf id p disks a i now old new (outcome_for result)
-  once_load result ended end adds calls wounded stops later was =
-      load_of id p disks a i now old new (walking.AreAllowed Reads (opening_of i) i) (walking.IsEndAt Reads (opening_of i) (held_bodies new) i now)
-      (allowed id p Reads read whole same i) (job_end id p Reads read whole same (held_bodies new) i now) (job_quiet id p Reads read whole same quiet (held_bodies new) i now) result ended end adds calls wounded stops later (same_input id p Reads read whole same i now was)

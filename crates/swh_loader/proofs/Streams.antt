@@ -25,7 +25,7 @@ use Rattle.swh_ingest.proofs.Closes.{whole_good}
 use Rattle.swh_keeperload.specs.Loading.{AddsVisit, EndsVisit, IsHeldBack, MakesVisitCalls, NoCountFell, Stops}
 use Rattle.swh_inputs.specs.Input.{InputText}
 use Rattle.swh_inputs.specs.Input.InputText.{StreamText}
-use Rattle.swh_inputs.specs.Batching.{IsNextFault}
+use Rattle.swh_inputs.specs.Reading.{IsReadFault}
 use Rattle.swh_inputs.specs.Parts.{Parts, IsSameInput}
 use Rattle.swh_inputs.specs.Streaming.{CameOn, IsNextOf, MayGoOn}
 use Rattle.swh_inputs.specs.declared.bad.InputFault.{InputFault}
@@ -114,7 +114,7 @@ module _ {S F N : Type 0} (id : Kind → List ℕ → List ℕ) (p : Parts S F) 
           ((there, omega (arith, later, faults)), refl)
 
       -- Where reading on tells each failure, so does the load.
-      module _ (hears : (i : StreamState) (found : Result (Next N InputFault) Memory) (now : StreamState) → Gives i found now → (IsNextFault found → ⊥) → now.standing.place.faults ≡ i.standing.place.faults) where
+      module _ (hears : (i : StreamState) (found : Result (Next N InputFault) Memory) (now : StreamState) → Gives i found now → (IsReadFault found → ⊥) → now.standing.place.faults ≡ i.standing.place.faults) where
         stream_quiet : (bodies : Bodies) (end : walk.End InputFault) → walking.IsGivenEndAt Gives Found bodies i now end → IsQuietEnd p (input s) (input back) (end_for end)
         stream_quiet bodies (Full snapshot) h = faults ∙ all_quiet id p.sources.tells head (p.sources.left s) (p.sources.faults s) path Gives on i h.0 snapshot now begins h.1
         stream_quiet bodies (Met name) h = faults ∙ given_quiet id p.sources.tells head (p.sources.left s) (p.sources.faults s) path Gives on i h.0 now begins h.1

@@ -14,6 +14,7 @@ mod loading;
 mod outcome;
 mod report;
 mod streaming;
+mod task;
 mod writing;
 
 pub use end::{BadInput, End, Loaded};

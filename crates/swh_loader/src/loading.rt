@@ -1,55 +1,53 @@
 // One load: what a job's input is, and how the visit ends.
 ghost use Rattle.std.specs.Prelude.{◌≡◌, ◌≤◌, Some, ℕ, IfOk, IfErr};
 ghost use Rattle.swh_outside.specs.Views.{disks, sources};
-ghost use Rattle.swh_ingest.specs.declared.input.Opening.TheVariants.{Found};
-ghost use Rattle.swh_ingest.specs.Loading.{IsWhole};
 ghost use Rattle.swh_ingest.specs.Owning.{attempt};
+ghost use Rattle.swh_ingest.specs.Parts.{IsWhole};
 ghost use Rattle.swh_keeperload.specs.Loading.{AddsVisit, EndsVisit, IsHeldBack, MakesVisitCalls, NoCountFell, Stops};
-ghost use Rattle.swh_inputs.specs.Opening.{kind_of, opening_of};
+ghost use Rattle.swh_inputs.specs.Opening.{kind_of};
 ghost use Rattle.swh_inputs.specs.Parts.{HasGoodHead, IsQuiet, IsSameInput, folders, parts};
-ghost use Rattle.swh_inputs.specs.Reading.{IsRead, IsReadFault};
+ghost use Rattle.swh_inputs.specs.Reading.{IsRead, IsReadFault, MayBeRead};
 ghost use Rattle.swh_loader.specs.Ending.{IsJobEnd, IsQuietEnd, held_bodies, statuses_of};
 ghost use Rattle.swh_loader.specs.Leaving.{AreAllowed, IsLoadOf, IsSameJob};
 ghost use Rattle.swh_loader.specs.Report.{detail_limit, end_room};
 
-use crate::batching::{BatchJob, load_batch};
+use crate::batching::load_batch;
 use crate::end::Loaded;
 use crate::job::Job;
 use crate::outcome::outcome_of;
-use crate::streaming::{StreamJob, load_stream};
+use crate::streaming::load_stream;
+use crate::task::Task;
 use std::alloc::Global;
-use swh_base::{Memory, Namer};
-use swh_ingest::{self as walk, ByCall, LoadFault, Turn};
-use swh_inputs::{Input, InputFault, read_input};
+use swh_base::{Memory, Name, Namer, Shared};
+use swh_ingest::{self as walk, ByParts, LoadFault, Next, Turn};
+use swh_inputs::{Input, InputFault, WholeInput, read_input};
 use swh_keeper::Keeper;
-use swh_keeperload::load_kept;
+use swh_keeperload::load_kept_parts;
 use swh_outside::{Disk, Folder, Gate, Opened, Source};
 
-/// Loads the input of an origin, which is read at once, as a new visit of it.
-fn load_at_once<N: Namer, D: Disk, S: Source, F: Folder, G: Gate>(
-    alloc: Global,
-    namer: &N,
+/// Loads the input of an origin, of which one part is all, as a new visit of it.
+fn load_whole<N: Namer, D: Disk, S: Source, F: Folder, G: Gate>(
+    task: &Task<N, G>,
     keeper: &mut Keeper<N, D>,
-    turn: &Turn<G>,
-    job: &mut Job<S, F>,
-    date: u64,
+    input: &mut Input<S, F>,
 ) -> Result<Loaded, LoadFault>
-    requires { HasGoodHead job.old.input }
-    ensures load { IsLoadOf N.id_of (parts (sources S.tells S.left S.faults S.path)
+    requires { HasGoodHead input.old }
+    ensures { IsLoadOf N.id_of (parts (sources S.tells S.left S.faults S.path)
         (folders F.tells F.holds F.faults F.opened_at)) (disks D.tells D.file D.faults)
-        (attempt turn.now.worker.now.by job.old.origin (kind_of job.old.input) date)
-        job.old.input job.new.input keeper.old keeper.new result }
-    ensures same_origin { job.new.origin ≡ job.old.origin }
+        (attempt task.now.turn.now.worker.now.by task.now.origin.now (kind_of input.old) task.now.date)
+        input.old input.new keeper.old keeper.new result }
 {
+    let alloc = task.alloc;
+    let namer = task.namer;
     let load = walk::Job {
-        origin: &job.origin,
-        kind: job.input.kind(),
-        date,
-        opening: job.input.opening(),
-        read: ByCall {
-            call: |input: &mut Input<S, F>| -> Result<walk::Input<N, InputFault>, Memory>
-                requires found { opening_of input.old ≡ Found }
-                requires head { HasGoodHead input.old }
+        origin: task.origin,
+        kind: input.kind(),
+        date: task.date,
+        opening: input.opening(),
+        read: ByParts {
+            said: WholeInput,
+            call: |input: &mut Input<S, F>| -> Result<Next<N, InputFault>, Memory>
+                requires { MayBeRead input.old }
                 ensures read { IfOk result (IsRead N.id_of (parts (sources S.tells S.left S.faults S.path)
                     (folders F.tells F.holds F.faults F.opened_at)) input.old input.new) }
                 ensures whole { IfOk result (IsWhole N.id_of) }
@@ -58,13 +56,16 @@ fn load_at_once<N: Namer, D: Disk, S: Source, F: Folder, G: Gate>(
                 ensures quiet { (IsReadFault result → ⊥) → IsQuiet (parts (sources S.tells S.left S.faults S.path)
                     (folders F.tells F.holds F.faults F.opened_at)) input.old input.new }
             { read_input(alloc, namer, input) },
+            share: |input: &mut Input<S, F>, _name: &Name, _body: Shared<u8>|
+                ensures { input.new ≡ input.old }
+            {},
         },
     };
-    outcome_of(load_kept(alloc, keeper, turn, &load, &mut job.input))
+    outcome_of(load_kept_parts(alloc, keeper, task.turn, &load, input))
 }
 
-/// Loads the input of an origin, as a new visit of it. A stream, and a batch with its refs, are read part by part, and what is
-/// new of their objects is sent while they are read; a folder is read at once.
+/// Loads the input of an origin, as a new visit of it. It is read part by part, and what is new of its objects is sent while it
+/// is read. A stream gives many parts, and so does a batch with its refs; a folder gives one.
 pub fn load_one<N: Namer, D: Disk, S: Source, F: Folder, G: Gate>(
     alloc: Global,
     namer: &N,
@@ -111,31 +112,25 @@ pub fn load_one<N: Namer, D: Disk, S: Source, F: Folder, G: Gate>(
     ensures same { IsSameJob (parts (sources S.tells S.left S.faults S.path)
         (folders F.tells F.holds F.faults F.opened_at)) job.old job.new }
 {
+    let task = Task {
+        alloc,
+        namer,
+        turn,
+        origin: &job.origin,
+        date,
+    };
     match &mut job.input {
         Input::Fast { stream, head } => match stream {
-            Opened::Found(source) => {
-                let stream = StreamJob {
-                    origin: &job.origin,
-                    head: &*head,
-                    date,
-                };
-                load_stream::<N, D, S, F, G>(alloc, namer, keeper, turn, &stream, source)
-            }
-            _ => load_at_once(alloc, namer, keeper, turn, job, date),
+            Opened::Found(source) => load_stream::<N, D, S, F, G>(&task, keeper, &*head, source),
+            _ => load_whole(&task, keeper, &mut job.input),
         },
         Input::Batch { objects, refs } => match objects {
             Opened::Found(objects) => match refs {
-                Opened::Found(refs) => {
-                    let batch = BatchJob {
-                        origin: &job.origin,
-                        date,
-                    };
-                    load_batch::<N, D, S, F, G>(alloc, namer, keeper, turn, &batch, objects, refs)
-                }
-                _ => load_at_once(alloc, namer, keeper, turn, job, date),
+                Opened::Found(refs) => load_batch::<N, D, S, F, G>(&task, keeper, objects, refs),
+                _ => load_whole(&task, keeper, &mut job.input),
             },
-            _ => load_at_once(alloc, namer, keeper, turn, job, date),
+            _ => load_whole(&task, keeper, &mut job.input),
         },
-        Input::Dir { .. } => load_at_once(alloc, namer, keeper, turn, job, date),
+        Input::Dir { .. } => load_whole(&task, keeper, &mut job.input),
     }
 }

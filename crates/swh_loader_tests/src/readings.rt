@@ -8,7 +8,7 @@ use std::test::Fail;
 use swh_base::{Kind, Memory, Name, Sha1Namer, Which};
 use swh_dedup::Objects;
 use swh_fastload::StreamWhy;
-use swh_ingest::Input as Given;
+use swh_ingest::Next;
 use swh_inputs::{BadText, InputFault, read_input};
 use swh_object::Object;
 use swh_outside::What;
@@ -78,11 +78,11 @@ fn breaks_so(bad: &BadText, ends: Ends) -> bool {
     }
 }
 
-fn ends_so(read: &Result<Given<Sha1Namer, InputFault>, Memory>, ends: Ends) -> bool {
+fn ends_so(read: &Result<Next<Sha1Namer, InputFault>, Memory>, ends: Ends) -> bool {
     match (read, ends) {
-        (Ok(Given::Made(made)), Makes(ids)) => has_all(made, ids),
-        (Ok(Given::Bad(InputFault::ReadFault)), Fails) => true,
-        (Ok(Given::Bad(InputFault::Bad(bad))), ends) => breaks_so(bad, ends),
+        (Ok(Next::Last(made)), Makes(ids)) => has_all(made, ids),
+        (Ok(Next::Bad(InputFault::ReadFault)), Fails) => true,
+        (Ok(Next::Bad(InputFault::Bad(bad))), ends) => breaks_so(bad, ends),
         _ => false,
     }
 }

@@ -2,17 +2,18 @@
 ghost use Rattle.std.specs.Prelude.{◌≡◌, IfOk, IfSome};
 ghost use Rattle.swh_base.specs.Namer.{byte_id};
 ghost use Rattle.swh_dedup.specs.Whole.{HasAllThatIsReached};
-ghost use Rattle.swh_ingest.specs.Loading.{IsWhole};
 
 use crate::desk::{Desk, Second};
 use std::alloc::{AllocError, Global};
 use std::collections::VecDeque;
 use std::test::Fail;
-use swh_base::{ByteNamer, Kind, Memory, Name, Url, VisitKind};
+use swh_base::{ByteNamer, Kind, Memory, Name, Shared, Url, VisitKind};
 use swh_dedup::Objects;
 use swh_fastload::load_source;
 use swh_fixtures::{URL, made_archive};
-use swh_ingest::{self as walk, ByCall, Destination, Input, Job, Opening, Turn, Worker, load};
+use swh_ingest::{
+    self as walk, Destination, Job, Next, Opening, ReadsParts, Turn, Worker, load_parts,
+};
 use swh_memory::MemorySource;
 use swh_model::{Event, EventKind};
 use swh_object::Object;
@@ -147,6 +148,32 @@ fn made_of(alloc: Global, stream: &[u8]) -> Result<Option<Objects<ByteNamer>>, A
     }
 }
 
+// The way that gives what was made as one part.
+#[derive(Clone, Copy, Debug)]
+struct Whole;
+
+impl ReadsParts<Option<Objects<ByteNamer>>, Next<ByteNamer, ()>> for Whole {
+    ghost use Rattle.std.specs.Prelude.{IfOk, IfSome};
+    ghost use Rattle.swh_base.specs.Namer.{byte_id};
+    ghost use Rattle.swh_dedup.specs.Whole.{HasAllThatIsReached};
+    ghost use Rattle.swh_ingest.specs.Parts.{IsWhole};
+
+    ghost takes = { λ r made. IfSome made (HasAllThatIsReached byte_id) };
+
+    ghost gives = { λ r made found now. IfOk found (IsWhole byte_id) };
+
+    ghost left = { λ r made. 0 };
+
+    fn next(&self, made: &mut Option<Objects<ByteNamer>>) -> Result<Next<ByteNamer, ()>, Memory> {
+        match made.take() {
+            Some(made) => Ok(Next::Last(made)),
+            None => Err(Memory),
+        }
+    }
+
+    fn share(&self, _made: &mut Option<Objects<ByteNamer>>, _name: &Name, _body: Shared<u8>) {}
+}
+
 // Loads what was made, as a visit of this origin.
 fn load_made<S, P: Destination<Plan<ByteNamer>, S>>(
     alloc: Global,
@@ -173,19 +200,9 @@ fn load_made<S, P: Destination<Plan<ByteNamer>, S>>(
         kind: VisitKind::Fast,
         date: 1_000_000_000,
         opening: Opening::Found,
-        read: ByCall {
-            call: |made: &mut Option<Objects<ByteNamer>>| -> Result<Input<ByteNamer, ()>, Memory>
-                requires { IfSome made.old (HasAllThatIsReached byte_id) }
-                ensures { IfOk result (IsWhole byte_id) }
-            {
-                match made.take() {
-                    Some(made) => Ok(Input::Made(made)),
-                    None => Err(Memory),
-                }
-            },
-        },
+        read: Whole,
     };
-    match load(alloc, destination, desk, &turn, &job, &mut Some(made)) {
+    match load_parts(alloc, destination, desk, &turn, &job, &mut Some(made)) {
         Ok(loaded) => match loaded.end {
             walk::End::Full { .. } => End::Full,
             walk::End::Met(name) => End::Met(name),

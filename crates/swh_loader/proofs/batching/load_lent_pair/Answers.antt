@@ -10,7 +10,7 @@ use Rattle.swh_loader.proofs.batching.load_lent_pair.Goals as goal
 pub returns-in_default-clause-load : goal.returns-in_default-clause-load
 returns-in_default-clause-load g c =
     let p = parts (sources g.S.Source.tells g.S.Source.left g.S.Source.faults g.S.Source.path) (folders g.F.Folder.tells g.F.Folder.holds g.F.Folder.faults g.F.Folder.opened_at) in
-    none_begun g.N.Namer.id_of p (disks g.D.Disk.tells g.D.Disk.file g.D.Disk.faults) (attempt c.args.turn.now.worker.now.by c.args.job.now.origin.now Batch c.args.job.now.date) (BatchPair (Here c.args.objects.now) (Here c.args.refs.now)) c.args.keeper.now
+    none_begun g.N.Namer.id_of p (disks g.D.Disk.tells g.D.Disk.file g.D.Disk.faults) (attempt c.args.task.now.turn.now.worker.now.by c.args.task.now.origin.now Batch c.args.task.now.date) (BatchPair (Here c.args.objects.now) (Here c.args.refs.now)) c.args.keeper.now
 
 pub returns-clause-load : goal.returns-clause-load
 returns-clause-load g c = c.load_pair.ensures.load

@@ -43,7 +43,7 @@ returns-clause-load g c =
     let i = c.args.input.now in
     let d = disks g.D.Disk.tells g.D.Disk.file g.D.Disk.faults in
     let back = c.load_kept_parts.new.input in
-    let a = attempt c.args.turn.now.worker.now.by c.args.job.now.origin.now Batch c.args.job.now.date in
+    let a = attempt c.args.task.now.turn.now.worker.now.by c.args.task.now.origin.now Batch c.args.task.now.date in
     let said = c.load_kept_parts.ensures in
     subst (λ (o : Result Loaded LoadFault). IsLoadOf id p d a (BatchPair (Here i.objects.now) (Here i.refs.now)) (BatchPair (Here back.objects.now) (Here back.refs.now)) c.args.keeper.now c.load_kept_parts.new.keeper o) (sym c.outcome_of.ensures)
     (batch_load id p i (λ x. x.parts) (λ x. x.objects.now) (λ x. x.refs.now) (λ x. x.objects.ghost_name) (λ x. x.refs.ghost_name) _

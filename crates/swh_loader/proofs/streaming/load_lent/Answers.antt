@@ -29,7 +29,7 @@ load_kept_parts-requires-clause-whole g c κs within =
     let id = g.N.Namer.id_of in
     let p = parts (sources g.S.Source.tells g.S.Source.left g.S.Source.faults g.S.Source.path) (folders g.F.Folder.tells g.F.Folder.holds g.F.Folder.faults g.F.Folder.opened_at) in
     let s = c.args.source.now in
-    let head = c.args.job.now.head.now in
+    let head = c.args.head.now in
     let path : List ℕ = c.args.source.ghost_name ∷ p.sources.path s in
     λ objects snapshot now gave. stream_whole id p head s path _
     (λ i x now given r h. subst (λ (b : StreamState). IfOk x (IsNextOf id p.sources.tells head (p.sources.left s) (p.sources.faults s) path given b)) r.4 (r.3.0 (p.sources.left s) (p.sources.faults s) path given (subst (λ (b : StreamState). GoesOn id p.sources.tells (p.sources.left s) (p.sources.faults s) path given b) (sym r.2) h)))
@@ -38,7 +38,7 @@ load_kept_parts-requires-clause-whole g c κs within =
 pub returns-in_default-clause-load : goal.returns-in_default-clause-load
 returns-in_default-clause-load g c =
     let p = parts (sources g.S.Source.tells g.S.Source.left g.S.Source.faults g.S.Source.path) (folders g.F.Folder.tells g.F.Folder.holds g.F.Folder.faults g.F.Folder.opened_at) in
-    none_begun g.N.Namer.id_of p (disks g.D.Disk.tells g.D.Disk.file g.D.Disk.faults) (attempt c.args.turn.now.worker.now.by c.args.job.now.origin.now Fast c.args.job.now.date) (FastInput (Here c.args.source.now) c.args.job.now.head.now) c.args.keeper.now
+    none_begun g.N.Namer.id_of p (disks g.D.Disk.tells g.D.Disk.file g.D.Disk.faults) (attempt c.args.task.now.turn.now.worker.now.by c.args.task.now.origin.now Fast c.args.task.now.date) (FastInput (Here c.args.source.now) c.args.head.now) c.args.keeper.now
 
 pub returns-clause-load : goal.returns-clause-load
 returns-clause-load g c =
@@ -46,10 +46,10 @@ returns-clause-load g c =
     let p = parts (sources g.S.Source.tells g.S.Source.left g.S.Source.faults g.S.Source.path) (folders g.F.Folder.tells g.F.Folder.holds g.F.Folder.faults g.F.Folder.opened_at) in
     let d = disks g.D.Disk.tells g.D.Disk.file g.D.Disk.faults in
     let s = c.args.source.now in
-    let head = c.args.job.now.head.now in
+    let head = c.args.head.now in
     let back = c.close.result.source.now in
     let path : List ℕ = c.args.source.ghost_name ∷ p.sources.path s in
-    let a = attempt c.args.turn.now.worker.now.by c.args.job.now.origin.now Fast c.args.job.now.date in
+    let a = attempt c.args.task.now.turn.now.worker.now.by c.args.task.now.origin.now Fast c.args.task.now.date in
     let said = c.load_kept_parts.ensures in
     subst (λ (o : Result Loaded LoadFault). IsLoadOf id p d a (FastInput (Here s) head) (FastInput (Here back) head) c.args.keeper.now c.load_kept_parts.new.keeper o) (sym c.outcome_of.ensures)
     (stream_load id p head s path _
@@ -64,7 +64,7 @@ returns-clause-same_reference g c =
     let id = g.N.Namer.id_of in
     let p = parts (sources g.S.Source.tells g.S.Source.left g.S.Source.faults g.S.Source.path) (folders g.F.Folder.tells g.F.Folder.holds g.F.Folder.faults g.F.Folder.opened_at) in
     let s = c.args.source.now in
-    let head = c.args.job.now.head.now in
+    let head = c.args.head.now in
     let path : List ℕ = c.args.source.ghost_name ∷ p.sources.path s in
     stream_loan id p head s path _
     (λ i x now given r h. subst (λ (b : StreamState). IfOk x (IsNextOf id p.sources.tells head (p.sources.left s) (p.sources.faults s) path given b)) r.4 (r.3.0 (p.sources.left s) (p.sources.faults s) path given (subst (λ (b : StreamState). GoesOn id p.sources.tells (p.sources.left s) (p.sources.faults s) path given b) (sym r.2) h)))
