@@ -1,0 +1,5 @@
+use Rattle.swh_rows.proofs.PlaceLemmas.{placed-none}
+use Rattle.swh_rows.proofs.places.Places.with_room.Goals as goal
+
+pub returns : goal.returns
+returns c = placed-none _
