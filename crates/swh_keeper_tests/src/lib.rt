@@ -31,6 +31,8 @@ mod replayed;
 #[cfg(test)]
 mod replays;
 #[cfg(test)]
+mod rows;
+#[cfg(test)]
 mod segment_events;
 #[cfg(test)]
 mod segment_making;
