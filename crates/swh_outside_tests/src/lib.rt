@@ -25,6 +25,8 @@ mod real_folders;
 #[cfg(test)]
 mod real_inputs;
 #[cfg(test)]
+mod real_links;
+#[cfg(test)]
 mod real_others;
 #[cfg(test)]
 mod real_yards;

@@ -4,8 +4,8 @@ use std::io::ErrorKind;
 use std::test::Fail;
 use std::time::{Duration, SystemTime, UNIX_EPOCH};
 use std::{io, rt};
-use swh_outside::{Clock, Doors, Failed, OutFault, Sink, Source};
-use swh_real::{RealClock, RealDoors, RealLink, RealSink};
+use swh_outside::{Clock, Failed, Sink};
+use swh_real::{RealClock, RealSink};
 use swh_temp_folders::{clear, fresh_room, is_file, path_in};
 
 // Whole seconds since 1970, as the library says them; none where it says none.
@@ -105,21 +105,4 @@ fn a_sink_takes_each_piece(rt: HostRuntime) -> Result<(), Fail> {
     let room = fresh_room(&rt, "sink", &[])?;
     assert!(rt; sinks_end_so(&rt, room.as_str())?);
     clear(&rt, room.as_str())
-}
-
-fn link_fails(link: &mut RealLink) -> bool {
-    link.get(&mut [0]) == Err(Failed) && link.put(b"c") == Err(Failed) && link.faults() == 2
-}
-
-fn doors_fail(doors: &mut RealDoors, link: RealLink) -> bool {
-    let fail = doors.bind("here") == Err(OutFault::Failed) && doors.accept().is_err();
-    doors.back(link);
-    fail && doors.faults() == 2
-}
-
-#[test]
-fn links_and_doors_fail(rt: HostRuntime) {
-    let mut link = RealLink::new();
-    let mut doors = RealDoors::new();
-    assert!(rt; link_fails(&mut link) && doors_fail(&mut doors, link));
 }

@@ -1,9 +1,10 @@
-//! The outside over files, standard output and the clock: the trusted edge.
+//! The outside over files, standard output, the clock and connections over TCP: the trusted edge.
 //! Stands on `swh_outside`, `swh_folder_names` and `swh_files`.
 //! Callers may rely on: each part's count of faults, which rises where the system refuses, and the bounds on lengths;
-//! what a file really holds no part tells.
+//! what a file or a connection really holds no part tells.
 #![tactic(auto)]
 
+mod accepting;
 mod clock;
 mod depot;
 mod disk;
@@ -11,8 +12,10 @@ mod doors;
 mod folder;
 mod link;
 mod origins;
+mod patience;
 mod sink;
 mod source;
+mod stream;
 mod yard;
 
 pub use clock::RealClock;

@@ -1,9 +1,9 @@
 // The real parts of the outside that a command may need.
 use std::alloc::{AllocError, Global};
-use swh_real::{RealClock, RealDepot, RealOrigins, RealYard};
+use swh_real::{RealClock, RealDepot, RealDoors, RealOrigins, RealYard};
 use swh_words::{Command, WordsFault, parse_words};
 
-/// The parts that stand on files and the clock.
+/// The parts that stand on files, the clock and sockets.
 #[derive(Drop)]
 pub struct Parts {
     pub depot: RealDepot<HostRuntime>,
@@ -11,6 +11,7 @@ pub struct Parts {
     pub origins: RealOrigins<HostRuntime>,
     pub yard: RealYard<HostRuntime>,
     pub clock: RealClock<HostRuntime>,
+    pub doors: RealDoors<HostRuntime>,
 }
 
 // The depot for a command. `init` makes the files of an archive and `load` writes to them, alone; others leave them as
@@ -36,5 +37,6 @@ pub fn parts_for(rt: &HostRuntime, alloc: Global, words: &[String]) -> Result<Pa
         origins: RealOrigins::new(rt.clone()?, alloc),
         yard: RealYard::new(rt.clone()?, alloc),
         clock: RealClock::new(rt.clone()?),
+        doors: RealDoors::new(rt.clone()?),
     })
 }

@@ -10,7 +10,7 @@ use swh_base::Sha1Namer;
 use swh_exit::{Answer, tell};
 use swh_outside::Sink;
 use swh_program::{Outside, run};
-use swh_real::{RealDoors, RealGate};
+use swh_real::RealGate;
 
 /// Runs the program on the words after its name: over the files of the system and its clock, with all that it prints
 /// put to the sink.
@@ -29,7 +29,7 @@ pub fn start<K: Sink + Drop>(rt: &HostRuntime, alloc: Global, words: &[String], 
         yard: parts.yard,
         sink,
         clock: parts.clock,
-        doors: RealDoors::new(),
+        doors: parts.doors,
         gate: RealGate,
     };
     End::with(run(rt, alloc, words, &mut world))
