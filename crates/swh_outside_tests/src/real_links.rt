@@ -214,6 +214,12 @@ const PACES: [Pace; 6] = [
     },
 ];
 
+// The front of a buffer, of so many bytes at most.
+fn front(out: &mut [u8], count: usize) -> &mut [u8] {
+    let end = count.min(out.len());
+    &mut out[..end]
+}
+
 fn keeps_pace(stream: TcpStream, pace: &Pace, out: &mut [u8]) -> bool {
     let clock = Hasty {
         seconds: pace.seconds,
@@ -221,11 +227,11 @@ fn keeps_pace(stream: TcpStream, pace: &Pace, out: &mut [u8]) -> bool {
     };
     let mut link = RealLink::new(&clock, stream);
     for _ in 0..pace.gets {
-        if link.get(&mut out[..pace.bytes]) != Ok(pace.bytes) {
+        if link.get(front(out, pace.bytes)) != Ok(pace.bytes) {
             return false;
         }
     }
-    link.get(&mut out[..1]) == Err(Failed) && link.faults() == 1
+    link.get(front(out, 1)) == Err(Failed) && link.faults() == 1
 }
 
 fn is_given_up_so(rt: &HostRuntime, pace: &Pace) -> Result<bool, Fail> {
