@@ -1,9 +1,10 @@
 -- A connection, piece by piece.
-use Rattle.std.proofs.Common.{◌≡◌, ℕ, zero, suc, ◌+◌, ◌*◌, ◌<◌, ◌≤◌, Bool, true, false, List, [], ◌∷◌, ◌++◌, length, refl, sym, ap, ◌∙◌, arith, subst, inl, inr, append_assoc, Option, Some, None, Result, Ok, Err}
+use Rattle.std.proofs.Common.{◌≡◌, ℕ, zero, suc, ◌+◌, ◌-◌, ◌*◌, ◌<◌, ◌≤◌, Bool, true, false, List, [], ◌∷◌, ◌++◌, length, refl, sym, ap, ◌∙◌, arith, subst, inl, inr, append_assoc, mul-le-mul_right, suc-mul, Option, Some, None, Result, Ok, Err}
 use Rattle.std.specs.Prelude.{◌≢◌, ◌⊎◌}
+use Rattle.swh_base.specs.Limits.{body_limit}
 use Rattle.std.proofs.lemmas.List.{append-nil, length-append}
 use Rattle.swh_http.specs.declared.ask.Ask.{Ask}
-use Rattle.swh_http.specs.Wire.{AreAsks, AwaitsBytes, held_length}
+use Rattle.swh_http.specs.Wire.{AreAsks, AwaitsBytes, held_length, head_limit}
 use Rattle.swh_serve.specs.declared.fault.PutFault.{PutFault}
 use Rattle.swh_serve.specs.declared.fault.PutFault.TheVariants as put
 use Rattle.swh_serve.specs.declared.fault.ServeFault.{ServeFault}
@@ -30,6 +31,10 @@ pub waits-some : (session : Option (List ℕ)) → IsWaiting session → (held :
 waits-some (Some held) waits = (held, refl)
 waits-some None waits = absurd waits
 
+-- a session that holds nothing waits
+pub waits-fresh : (session : Option (List ℕ)) → session ≡ Some [] → AwaitsBytes [] → IsWaiting session
+waits-fresh session is waits = let P : Option (List ℕ) → Type 0 = λ x. IsWaiting x in subst P (sym is) waits
+
 -- ---- causes
 
 failed-so : (before mid now : ℕ) → mid ≡ before → Failed mid now → Failed before now
@@ -39,6 +44,13 @@ err-cause : (before mid now : ℕ) (fault : PutFault) → mid ≡ before → IsP
     → IsServeCause {T = Progress} before now (Err (serve_fault fault))
 err-cause before mid now put.Write same cause = failed-so before mid now same cause
 err-cause before mid now put.Memory same cause = cause ∙ same
+
+pub err-served : (before mid now : ℕ) (fault : ServeFault) → mid ≡ before → IsServeCause {T = Progress} mid now (Err fault)
+    → IsServeCause {T = Served} before now (Err fault)
+err-served before mid now Read same cause = failed-so before mid now same cause
+err-served before mid now Write same cause = failed-so before mid now same cause
+err-served before mid now (Short held) same cause = cause ∙ same
+err-served before mid now Memory same cause = cause ∙ same
 
 -- replies change the one count of the link only where one could not be put
 pub replied-cause : (before mid at now : ℕ) (replied : Result Progress PutFault) (result : Result Progress ServeFault)
@@ -166,6 +178,18 @@ module _ {S : Type 0} (p : Protocol S) (Tells : Type 0) where
       → Gives Tells piece old new → StaysOpen Tells old new → IsServedFrom p Tells n held s s old new (Err Memory)
   read-starves n held piece s old new waits same gives stays =
       nothing n held piece s old new (Err Memory) waits gives (stays, inl (tt, put-none Tells old new same))
+
+  -- there was no memory to begin with
+  pub none-begun : (s : S) (now : Seen) → AwaitsBytes [] → IsServed p Tells s s now now (Err Memory)
+  none-begun s now waits = read-starves 0 [] [] s now now waits refl (λ tells. sym (append-nil now.given)) (λ tells. refl)
+
+  -- a connection begins with no bytes that wait
+  pub from-start : (session : Option (List ℕ)) (held : List ℕ) (s s' : S) (old new : Seen) (result : Result Served ServeFault)
+      → session ≡ Some [] → session ≡ Some held → IsServedFrom p Tells 0 held s s' old new result → IsServed p Tells s s' old new result
+  from-start session held s s' old new result fresh is served =
+      let same : held ≡ [] = cc (sym is ∙ fresh) in
+      let P : List ℕ → Type 0 = λ l. IsServedFrom p Tells 0 l s s' old new result in
+      subst P same served
 
   -- nothing was read that may be replied to
   pub read-stops : (n : ℕ) (held : List ℕ) (s : S) (old new : Seen) (session : Option (List ℕ)) (fault : ServeFault) → AwaitsBytes held
@@ -312,7 +336,30 @@ so_far requests session = requests * request_limit + held_length session
 
 -- more than a connection can come to
 abbrev pub far : ℕ
-far = (requests_limit + 1) * request_limit
+far = requests_limit * request_limit + 1
+
+room-left : (n m size h : ℕ) → n < m → h ≤ size → n * size + h ≤ m * size
+room-left n m size h few within =
+    let next : suc n ≤ m = omega arith in
+    let most : suc n * size ≤ m * size = mul-le-mul_right size next in
+    omega (arith, suc-mul n size)
+
+under : (a m : ℕ) → a ≤ m → a < m + 1
+under a m within = omega arith
+
+nearer : (most a b : ℕ) → a < b → a < most → most - b < most - a
+nearer most a b more below = omega arith
+
+parts-bound : (held text rest : List ℕ) (n : ℕ) → held ≡ text ++ rest → length text ≤ head_limit → n ≤ body_limit → length rest < n
+    → length held ≤ request_limit
+parts-bound held text rest n whole short small few =
+    let long : length held ≡ length text + length rest = ap length whole ∙ length-append text rest in
+    omega arith
+
+-- what waits is no longer than a request
+held-bound : (held : List ℕ) → AwaitsBytes held → length held ≤ request_limit
+held-bound held (inl short) = omega (arith, short.0)
+held-bound held (inr whole) = parts-bound held _ whole.1 whole.2 whole.3.reads.1 whole.3.short whole.4.short whole.5
 
 module _ {S : Type 0} (p : Protocol S) (Tells : Type 0) where
   some-bytes : (piece : List ℕ) → piece ≢ [] → 0 < length piece
@@ -334,3 +381,41 @@ module _ {S : Type 0} (p : Protocol S) (Tells : Type 0) where
   pub goes-waits : (n k : ℕ) (held now_held : List ℕ) (s s' : S) (old new : Seen) → GoesOn p Tells n held s s' old new k now_held
       → AwaitsBytes now_held
   goes-waits n k held now_held s s' old new goes = left-waits (held ++ goes.piece) (asks_of goes.turns) now_held goes.asks
+
+  smaller : (n k : ℕ) (held now_held : List ℕ) (s s' : S) (old new : Seen) → n < requests_limit → AwaitsBytes held
+      → GoesOn p Tells n held s s' old new k now_held → far - so_far k (Some now_held) < far - so_far n (Some held)
+  smaller n k held now_held s s' old new few waits goes =
+      nearer far (so_far n (Some held)) (so_far k (Some now_held)) (goes-further n k held now_held s s' old new goes)
+      (under (so_far n (Some held)) (requests_limit * request_limit) (room-left n requests_limit request_limit (length held) few (held-bound held waits)))
+
+  -- What a piece came to, whatever bytes waited before it.
+  abbrev pub Goes : ℕ → ℕ → Option (List ℕ) → Option (List ℕ) → S → S → Seen → Seen → Type 0
+  Goes n k session now_session s s' old new =
+      (held : List ℕ) → session ≡ Some held → IsPieceEnd p Tells n held s s' old new now_session (Ok (Open k))
+
+  pub piece-further : (n k : ℕ) (session now_session : Option (List ℕ)) (s s' : S) (old new : Seen) → n < requests_limit
+      → IsWaiting session → Goes n k session now_session s s' old new → far - so_far k now_session < far - so_far n session
+  piece-further n k None now_session s s' old new few waits goes = absurd waits
+  piece-further n k (Some held) now_session s s' old new few waits goes =
+      let went = goes held refl in
+      let P : Option (List ℕ) → Type 0 = λ x. far - so_far k x < far - so_far n (Some held) in
+      subst P (sym went.1) (smaller n k held went.0 s s' old new few waits went.2)
+
+  pub piece-waits : (n k : ℕ) (session now_session : Option (List ℕ)) (s s' : S) (old new : Seen) → IsWaiting session
+      → Goes n k session now_session s s' old new → IsWaiting now_session × (k < requests_limit)
+  piece-waits n k session now_session s s' old new waits goes =
+      let some = waits-some session waits in
+      let went = goes some.0 some.1 in
+      let P : Option (List ℕ) → Type 0 = λ x. IsWaiting x in
+      (subst P (sym went.1) (goes-waits n k some.0 went.0 s s' old new went.2), went.2.few)
+
+  pub piece-goes : AnyPieces → (n k : ℕ) (session now_session : Option (List ℕ)) (s mid s' : S) (old at new : Seen) (held : List ℕ)
+      (result : Result Served ServeFault) → IsWaiting session → Goes n k session now_session s mid old at → now_session ≡ Some held
+      → IsServedFrom p Tells k held mid s' at new result
+      → (h : List ℕ) × (session ≡ Some h) × IsServedFrom p Tells n h s s' old new result
+  piece-goes any n k session now_session s mid s' old at new held result waits goes is served =
+      let some = waits-some session waits in
+      let went = goes some.0 some.1 in
+      let same : held ≡ went.0 = cc (sym is ∙ went.1) in
+      let P : List ℕ → Type 0 = λ l. IsServedFrom p Tells k l mid s' at new result in
+      (some.0, some.1, goes-on p Tells any n k some.0 went.0 s mid s' old at new result went.2 (subst P same served))

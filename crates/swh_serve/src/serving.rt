@@ -89,7 +89,6 @@ fn serve_piece<S, A: Desk<S>, L: Link>(
 /// that are no request are refused with 400, 413, 431 or 501, which closes. The thousandth reply closes. A link that
 /// ends between two requests, or behind a reply that closes, is `Ok`. Fails where the link does, where it ends inside
 /// a request, and where there is no memory to read or to put a reply; then the link has a front of the replies.
-#[tactic(none)]
 pub fn serve_over<S, A: Desk<S>, L: Link>(
     alloc: Global,
     desk: &A,
