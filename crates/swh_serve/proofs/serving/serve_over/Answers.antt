@@ -34,7 +34,7 @@ pub pieces-smaller : goal.pieces-smaller
 pieces-smaller g c =
     let E : List ℕ → Result Progress ServeFault → Type 0 = λ held r. IsPieceEnd (g.A.Desk.protocol c.args.desk.now) g.L.Source.tells c.pieces.requests held c.pieces.seat
     c.serve_piece.new.seat (seen g.L.Source.given g.L.Source.ended g.L.Sink.taken c.pieces.link) (seen g.L.Source.given g.L.Source.ended g.L.Sink.taken c.serve_piece.new.link) c.serve_piece.new.reading.session r in
-    let went : c.serve_piece.result ≡ Ok (Open c.in-Ok-Open.more) = cc (c.in-Ok-Open.is, c.in-Ok-Open.field-0-is, c.in-Ok-Open.more-is) in
+    let went : c.serve_piece.result ≡ Ok (Open c.in-Ok-Open.more) = cc (c.in-Ok-Open.is, c.in-Ok-Open.field-0-is) in
     let goes : Goes (g.A.Desk.protocol c.args.desk.now) g.L.Source.tells c.pieces.requests c.in-Ok-Open.more c.pieces.reading.session c.serve_piece.new.reading.session
     c.pieces.seat c.serve_piece.new.seat (seen g.L.Source.given g.L.Source.ended g.L.Sink.taken c.pieces.link) (seen g.L.Source.given g.L.Source.ended g.L.Sink.taken c.serve_piece.new.link) = λ held is. subst (E held) went (c.serve_piece.ensures.piece held is) in
     piece-further (g.A.Desk.protocol c.args.desk.now) g.L.Source.tells c.pieces.requests c.in-Ok-Open.more c.pieces.reading.session
@@ -48,7 +48,7 @@ pieces-preserved g c =
     let C : Result Progress ServeFault → Type 0 = λ r. IsServeCause (g.L.Source.faults c.pieces.link) (g.L.Source.faults c.serve_piece.new.link) r in
     let Y : Result Progress ServeFault → Type 0 = λ r. IfOk r (λ (x : Progress). IsReadyBehind (g.A.Desk.protocol c.args.desk.now) c.serve_piece.new.seat x) in
     let R : ℕ → Type 0 = λ m. 0 < m in
-    let went : c.serve_piece.result ≡ Ok (Open c.in-Ok-Open.more) = cc (c.in-Ok-Open.is, c.in-Ok-Open.field-0-is, c.in-Ok-Open.more-is) in
+    let went : c.serve_piece.result ≡ Ok (Open c.in-Ok-Open.more) = cc (c.in-Ok-Open.is, c.in-Ok-Open.field-0-is) in
     let goes : Goes (g.A.Desk.protocol c.args.desk.now) g.L.Source.tells c.pieces.requests c.in-Ok-Open.more c.pieces.reading.session c.serve_piece.new.reading.session
     c.pieces.seat c.serve_piece.new.seat (seen g.L.Source.given g.L.Source.ended g.L.Sink.taken c.pieces.link) (seen g.L.Source.given g.L.Source.ended g.L.Sink.taken c.serve_piece.new.link) = λ held is. subst (E held) went (c.serve_piece.ensures.piece held is) in
     let next = piece-waits (g.A.Desk.protocol c.args.desk.now) g.L.Source.tells c.pieces.requests c.in-Ok-Open.more c.pieces.reading.session
@@ -71,7 +71,7 @@ pub returns-in-Ok-Closed-clause-served : goal.returns-in-Ok-Closed-clause-served
 returns-in-Ok-Closed-clause-served g c =
     let E : List ℕ → Result Progress ServeFault → Type 0 = λ held r. IsPieceEnd (g.A.Desk.protocol c.args.desk.now) g.L.Source.tells c.pieces.requests held c.pieces.seat
     c.serve_piece.new.seat (seen g.L.Source.given g.L.Source.ended g.L.Sink.taken c.pieces.link) (seen g.L.Source.given g.L.Source.ended g.L.Sink.taken c.serve_piece.new.link) c.serve_piece.new.reading.session r in
-    let went : c.serve_piece.result ≡ Ok (Closed c.in-Ok-Closed.requests) = cc (c.in-Ok-Closed.is, c.in-Ok-Closed.field-0-is, c.in-Ok-Closed.requests-is) in
+    let went : c.serve_piece.result ≡ Ok (Closed c.in-Ok-Closed.requests) = cc (c.in-Ok-Closed.is, c.in-Ok-Closed.field-0-is) in
     let some = waits-some c.pieces.reading.session c.pieces.invariant.waits in
     c.pieces.invariant.goes some.0 c.serve_piece.new.seat (seen g.L.Source.given g.L.Source.ended g.L.Sink.taken c.serve_piece.new.link)
     (Ok (record { requests = c.in-Ok-Closed.requests })) some.1 (subst (E some.0) went (c.serve_piece.ensures.piece some.0 some.1))
@@ -79,7 +79,7 @@ returns-in-Ok-Closed-clause-served g c =
 pub returns-in-Ok-Closed-clause-cause : goal.returns-in-Ok-Closed-clause-cause
 returns-in-Ok-Closed-clause-cause g c =
     let C : Result Progress ServeFault → Type 0 = λ r. IsServeCause (g.L.Source.faults c.pieces.link) (g.L.Source.faults c.serve_piece.new.link) r in
-    let went : c.serve_piece.result ≡ Ok (Closed c.in-Ok-Closed.requests) = cc (c.in-Ok-Closed.is, c.in-Ok-Closed.field-0-is, c.in-Ok-Closed.requests-is) in
+    let went : c.serve_piece.result ≡ Ok (Closed c.in-Ok-Closed.requests) = cc (c.in-Ok-Closed.is, c.in-Ok-Closed.field-0-is) in
     subst C went c.serve_piece.ensures.cause ∙ c.pieces.invariant.same_count
 
 pub returns-in-Err-clause-served : goal.returns-in-Err-clause-served
