@@ -35,5 +35,6 @@ head_text reply keep =
     status_line reply.status ++ length_line (length reply.body) ++ type_line reply.json ++ closing keep
     ++ codes "\r\n"
 
+-- A whole reply, as it is put.
 abbrev pub reply_text : Reply → Bool → List ℕ
 reply_text reply keep = head_text reply keep ++ reply.body

@@ -1,6 +1,7 @@
-pub mod Failing
+pub mod Doors
 pub mod Folders
 pub mod Inputs
+pub mod Links
 pub mod Outside
 pub mod Parts
 pub mod Yards

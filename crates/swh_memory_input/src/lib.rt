@@ -1,9 +1,9 @@
-//! Sources, folders, origins, sinks, yards and a clock in memory, told in full, of which each can be made to fail at
-//! chosen calls; links and doors that always fail; and a gate that counts its calls. No call of a source, sink or clock
-//! allocates.
+//! Sources, folders, origins, sinks, yards, links, doors and a clock in memory, told in full, of which each can be made
+//! to fail at chosen calls; and a gate that counts its calls. No call of a source, sink, link or clock allocates.
 //! Stands on `swh_outside`, `swh_memory_failures` and `swh_folder_names`.
 //! Callers may rely on: a source gives the bytes and the pieces that it was made with, a folder holds the tree of its
-//! places, a sink keeps what was put, and a yard what was begun, in its order.
+//! places, a sink keeps what was put, a yard what was begun, in its order, a link both what it gave and what was put,
+//! and doors the links that were given back.
 #![tactic(auto)]
 
 mod clock;

@@ -17,6 +17,8 @@ pub struct MemorySource {
 }
 
 impl MemorySource {
+    ghost use Rattle.std.specs.Prelude.{◌<◌, ◌==◌, ◌||◌, ◌++◌, take, drop, min, max};
+    ghost use Rattle.swh_outside.specs.Source.{IsGot};
     ghost use Rattle.swh_memory_input.specs.Inputs.{
       source_left,
       source_given,
@@ -47,6 +49,48 @@ impl MemorySource {
             ended: false,
             failures: Failures::at(failing),
         }
+    }
+
+    /// Takes the next bytes that are left into the front of `out`, and says how many; 0 is the end.
+    pub(crate) fn give(&mut self, out: &mut [u8]) -> usize
+        requires { 0 < length out.old }
+        ensures count { result ≡ min (min (length out.old) (max (source_piece self.old) 1))
+            (length (source_left self.old)) }
+        ensures got { IsGot (source_left self.old) result out.new (source_left self.new) }
+        ensures rest { drop result out.new ≡ drop result out.old }
+        ensures given { source_given self.new ≡ source_given self.old ++ take result out.new }
+        ensures ended { source_ended self.new ≡ (source_ended self.old || (result == 0)) }
+
+        // What it leaves as it was.
+        ensures same_path { source_path self.new ≡ source_path self.old }
+        ensures same_piece { source_piece self.new ≡ source_piece self.old }
+        ensures same_tally { source_tally self.new ≡ source_tally self.old }
+    {
+        let count = out
+            .len()
+            .min(self.piece.max(1))
+            .min(self.bytes.len() - self.at);
+        let end = self.at + count;
+        out[..count].copy_from_slice(&self.bytes[self.at..end]);
+        self.at = end;
+        if count == 0 {
+            self.ended = true;
+        }
+        count
+    }
+
+    /// The bytes that it gave.
+    pub fn given(&self) -> &[u8]
+        ensures { result.now ≡ source_given self.now }
+    {
+        &self.bytes[..self.at]
+    }
+
+    /// Whether a call met the end.
+    pub fn has_ended(&self) -> bool
+        ensures { result ≡ source_ended self.now }
+    {
+        self.ended
     }
 
     /// How often it has failed.
@@ -112,16 +156,6 @@ impl Source for MemorySource {
         if self.failures.next_fails() {
             return Err(self.failures.refuse());
         }
-        let count = out
-            .len()
-            .min(self.piece.max(1))
-            .min(self.bytes.len() - self.at);
-        let end = self.at + count;
-        out[..count].copy_from_slice(&self.bytes[self.at..end]);
-        self.at = end;
-        if count == 0 {
-            self.ended = true;
-        }
-        Ok(count)
+        Ok(self.give(out))
     }
 }

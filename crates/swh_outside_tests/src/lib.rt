@@ -15,6 +15,8 @@ mod images;
 #[cfg(test)]
 mod inputs;
 #[cfg(test)]
+mod memory_links;
+#[cfg(test)]
 mod others;
 #[cfg(test)]
 mod path_counts;

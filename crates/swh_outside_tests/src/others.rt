@@ -1,8 +1,8 @@
 // The other parts in memory.
 use std::alloc::Global;
 use std::test::Fail;
-use swh_memory::{MemoryClock, MemoryDoors, MemoryGate, MemoryLink, MemorySink};
-use swh_outside::{Clock, Doors, Failed, Gate, OutFault, Sink, Source};
+use swh_memory::{MemoryClock, MemoryGate, MemorySink};
+use swh_outside::{Clock, Failed, Gate, Sink};
 
 #[test]
 fn a_gate_counts_its_calls(rt: HostRuntime) {
@@ -53,21 +53,4 @@ fn a_clock_stands(rt: HostRuntime) -> Result<(), Fail> {
     let mut clock = MemoryClock::new(1_000_000_000, [1].to_vec(rt.alloc())?);
     assert!(rt; stands(&mut clock));
     Ok(())
-}
-
-fn link_fails(link: &mut MemoryLink) -> bool {
-    link.get(&mut [0]) == Err(Failed) && link.put(b"c") == Err(Failed) && link.faults() == 2
-}
-
-fn doors_fail(mut doors: MemoryDoors, link: MemoryLink) -> bool {
-    let fail = doors.bind("here") == Err(OutFault::Failed) && doors.accept().is_err();
-    doors.back(link);
-    fail && doors.faults() == 2
-}
-
-#[test]
-fn links_and_doors_fail(rt: HostRuntime) {
-    let mut link = MemoryLink::new(rt.alloc());
-    assert!(rt; link_fails(&mut link));
-    assert!(rt; doors_fail(MemoryDoors::new(rt.alloc()), link));
 }

@@ -7,7 +7,7 @@ use std::test::Fail;
 use std::thread::Threads;
 use std::time::{Duration, Instant};
 use std::{io, rt, thread};
-use swh_outside::{Doors, Failed, OutFault, Sink, Source};
+use swh_outside::{Doors, Failed, Link, OutFault, Sink, Source};
 use swh_real::{RealDoors, RealLink};
 
 const REPLY: &[u8] = b"HTTP/1.1 413 Content Too Large\r\nContent-Length: 0\r\n\r\n";

@@ -77,18 +77,6 @@ impl<R: Clock + Drop> RealLink<R> {
         self.count.get()
     }
 
-    /// Ends what is put: the other side reads the end behind it, as RFC 9293, section 3.6, has it for a half that is
-    /// closed. What it still sends is read and lost, for 5 s or until it was silent for a second, since unread bytes
-    /// would make a reset of the close, which may take the last reply away (RFC 9112, section 9.6). Then both halves
-    /// are closed.
-    pub fn finish(&mut self)
-        ensures { self.new ≡ self.old }
-    {
-        let _ = self.stream.shutdown(Shutdown::Write);
-        let _ = self.drain();
-        let _ = self.stream.shutdown(Shutdown::Both);
-    }
-
     // Reads on for a while.
     fn drain(&mut self) -> io::Result<()>
         ensures { self.new ≡ self.old }
@@ -268,4 +256,15 @@ impl<R: Clock + Drop + Send> Link for RealLink<R> {
     ghost puts_stay = { λ _. refl };
 
     ghost gets_stay = { λ _. refl };
+
+    // RFC 9293, section 3.6, has the end of what is put as a half that is closed. What comes is read for 5 s or until
+    // the other side was silent for a second, since unread bytes would make a reset of the close, which may take the
+    // last reply away (RFC 9112, section 9.6). Then both halves are closed.
+    fn finish(&mut self)
+        ensures { self.new ≡ self.old }
+    {
+        let _ = self.stream.shutdown(Shutdown::Write);
+        let _ = self.drain();
+        let _ = self.stream.shutdown(Shutdown::Both);
+    }
 }
