@@ -1,9 +1,10 @@
 pub use Rattle.swh_memory_failures.specs.Answers
-pub use Rattle.swh_memory_input.specs.Failing
+pub use Rattle.swh_memory_input.specs.Doors
 pub use Rattle.swh_memory_disk.specs.InPlace
 pub use Rattle.swh_memory_input.specs.Inputs
 pub use Rattle.swh_memory_disk.specs.Kept
 pub use Rattle.swh_memory_disk.specs.Memory
+pub use Rattle.swh_memory_input.specs.Links
 pub use Rattle.swh_memory_input.specs.Outside
 pub use Rattle.swh_memory_input.specs.Parts
 pub use Rattle.swh_memory_disk.specs.Record
