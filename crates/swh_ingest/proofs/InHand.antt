@@ -1,20 +1,25 @@
 -- An input that is read part by part: what it gave is held, or waits.
-use Rattle.std.proofs.Common.{◌≡◌, inl, inr, ℕ, Bool, Result, Ok, Err, List, [], ◌∷◌, ◌++◌, refl, sym, ap, ◌∙◌, subst, append_assoc}
-use Rattle.std.specs.Prelude.{IfOk}
+use Rattle.std.proofs.Common.{◌≡◌, ◌⊎◌, inl, inr, ℕ, Bool, Result, Ok, Err, List, [], ◌∷◌, ◌++◌, refl, sym, ap, ◌∙◌, subst, append_assoc}
+use Rattle.std.specs.Prelude.{IfOk, IfErr}
+use Rattle.std.specs.declared.cmp.Ordering.{Ordering}
 use Rattle.std.specs.Global.{Vec}
 use Rattle.std.specs.List.{AllByRecursion}
-use Rattle.std.proofs.lemmas.List.{append-nil}
+use Rattle.std.specs.List.Sorted.{IsPermutation, IsSorted}
+use Rattle.std.proofs.lemmas.List.{append-nil, map-append}
 use Rattle.swh_base.specs.declared.kind.Kind.{Kind}
 use Rattle.swh_base.specs.declared.name.Name.{Name}
 use Rattle.swh_base.specs.declared.entry.Entry.{Entry}
+use Rattle.swh_base.specs.contracts.name.NameOrd.TheImpl.{cmp-value}
 use Rattle.swh_base.specs.Snapshot.{snapshot_name}
 use Rattle.swh_base.proofs.Elementary.{all_as}
+use Rattle.swh_closure.proofs.Order.{order_is}
 use Rattle.swh_model.specs.declared.event.EventKind.{EventKind}
 use Rattle.swh_model.specs.declared.event.Wish.{Wish}
 use Rattle.swh_model.specs.Archive.{Bodies, IsClosed}
 use Rattle.swh_model.specs.Grows.{IsWithin}
 use Rattle.swh_model.proofs.Entries.{all-append}
 use Rattle.swh_dedup.specs.declared.objects.Objects.{Objects}
+use Rattle.swh_dedup.specs.Whole.{names_of}
 use Rattle.swh_ingest.specs.Knowing.{Protocol, IsLawful, held_in}
 use Rattle.swh_ingest.specs.declared.end.End.{End}
 use Rattle.swh_ingest.specs.declared.parts.Next.{Next}
@@ -25,12 +30,20 @@ use Rattle.swh_ingest.specs.declared.sending_parts.Sent.TheVariants as sent
 use Rattle.swh_ingest.specs.declared.stop.Stop.{Stop}
 use Rattle.swh_ingest.specs.Loading.{last_at}
 use Rattle.swh_ingest.specs.Owning.{AreAmong, IsBatchAmong, IsBatchAsked}
-use Rattle.swh_ingest.specs.Parts.{objects_in, IsPart, Gave, GaveSoFar, GaveSome, GaveAll, MayHaveGiven, AreGiven, IsReadOn, IsSentSo, IsGivenEnd, IsBatchFor, IsBatchAskedFor, IsLastSent, IfAll, ReachesAll, end_of}
+use Rattle.swh_ingest.specs.Parts.{AreInOrder, objects_in, IsPart, Gave, GaveSoFar, GaveSome, GaveAll, MayHaveGiven, AreGiven, IsReadOn, IsSentSo, IsGivenEnd, IsBatchFor, IsBatchAskedFor, IsLastSent, IsNamed, IsSameOrUnbroken, IsUnbroken, IfAll, IfBad, ReachesAll, end_of}
 use Rattle.swh_ingest.specs.Sending.{IsHeldWhole, IsInHand, IsMet, IsPendingBatch, AreSentButABatch, AreTakenIn}
 use Rattle.swh_ingest.specs.Walking.{Adds, StopsAfter}
 use Rattle.swh_ingest.proofs.Closes.{reaches_closed}
 use Rattle.swh_ingest.proofs.Steps.{adds_as, adds_then, adds_within, after_as, after_then}
 use Rattle.swh_ingest.proofs.Waiting.{among_both, among_further, all_within, batch_within, met_among, other_within}
+
+-- names of objects, and of more of them
+pub named_more : (names all : List Name) (objects more : List Entry) → names ≡ names_of objects → all ≡ names ++ names_of more → all ≡ names_of (objects ++ more)
+named_more names all objects more are is = is ∙ ap (λ (ns : List Name). ns ++ names_of more) are ∙ sym (map-append (λ (e : Entry). e.name) objects more)
+
+-- names once they are sorted
+pub in_order : (names sorted : List Name) → IsPermutation names sorted → IsSorted cmp-value.it sorted → AreInOrder names sorted
+in_order names sorted same ascending = record { same = same; ascending = subst (λ (R : Name → Name → Ordering). IsSorted R sorted) order_is ascending }
 
 objects_in-push : (parts : List (List Entry)) (part : List Entry) → objects_in (parts ++ part ∷ []) ≡ objects_in parts ++ part
 objects_in-push [] part = append-nil part
@@ -64,6 +77,21 @@ module _ {I N B E : Type 0} (Gives : I → Result (Next N B) E → I → Type 0)
   pub read_on : (i mid now : I) (front : List Entry) (found : Result (Next N B) E) → GaveSoFar Gives i front mid → Gives mid found now → IsReadOn Gives i now
   read_on i mid now front found h gives = record { front = front; mid = mid; so_far = h; rest = inr (found, gives) }
 
+  -- the input was not found bad
+  pub unbroken_some : (i mid now : I) (front : List Entry) (objects : Vec Entry) → GaveSoFar Gives i front mid → Gives mid (Ok (next.Part objects)) now → IsUnbroken Gives i now
+  unbroken_some i mid now front objects h gives = inl (front ++ objects.items, inl (some_given i mid now front objects h gives))
+
+  pub unbroken_all : (i mid now : I) (front : List Entry) (last : Objects N) → GaveSoFar Gives i front mid → Gives mid (Ok (next.Last last)) now → IsUnbroken Gives i now
+  unbroken_all i mid now front last h gives = inl (front ++ last.objects.items, inr (last.snapshot, all_given i mid now front last h gives))
+
+  pub unbroken_none : (i mid now : I) (front : List Entry) (fault : E) → GaveSoFar Gives i front mid → Gives mid (Err fault) now → IsUnbroken Gives i now
+  unbroken_none i mid now front fault h gives = inr (record { front = front; mid = mid; so_far = h; fault = fault; gives = gives })
+
+  -- nor was one that is as it was
+  pub heard_on : (i now : I) (X : Type 0) → IsUnbroken Gives i now ⊎ X → IsSameOrUnbroken Gives i now ⊎ X
+  heard_on i now X (inl h) = inl (inr h)
+  heard_on i now X (inr x) = inr x
+
   module _ (i : I) where
     -- What an input gave so far is in hand.
     pub record HasInHand (bodies : Bodies) (p : Pending N) (now : I) : Type 0 where
@@ -72,13 +100,13 @@ module _ {I N B E : Type 0} (Gives : I → Result (Next N B) E → I → Type 0)
       pub among : AreAmong objects p.objects.items
       pub each : AllByRecursion (IsInHand bodies p) objects
 
-    pub hand_none : (bodies : Bodies) (p : Pending N) → p.objects.items ≡ [] → HasInHand bodies p i
+    unfoldable pub hand_none : (bodies : Bodies) (p : Pending N) → p.objects.items ≡ [] → HasInHand bodies p i
     hand_none bodies p none = record { objects = []; so_far = so_far_none i; among = subst (AreAmong []) (sym none) tt; each = tt }
 
-    pub hand_more : (id : Kind → List ℕ → List ℕ) (alone : Bool) (a b : Bodies) (p q : Pending N) (mid now : I) (objects : Vec Entry) → HasInHand a p mid → Gives mid (Ok (next.Part objects)) now → AreTakenIn id alone a p objects.items b q → HasInHand b q now
-    hand_more id alone a b p q mid now objects h gives t = record {
+    unfoldable pub hand_more : (id : Kind → List ℕ → List ℕ) (alone : Bool) (a b : Bodies) (p q : Pending N) (mid now then : I) (objects : Vec Entry) → HasInHand a p mid → Gives mid (Ok (next.Part objects)) now → then ≡ now → AreTakenIn id alone a p objects.items b q → HasInHand b q then
+    hand_more id alone a b p q mid now then objects h gives same t = record {
       objects = h.objects ++ objects.items;
-      so_far = so_far_more i mid now h.objects objects h.so_far gives;
+      so_far = subst (GaveSoFar Gives i (h.objects ++ objects.items)) (sym same) (so_far_more i mid now h.objects objects h.so_far gives);
       among = among_further (h.objects ++ objects.items) (p.objects.items ++ objects.items) q.objects.items (among_both h.objects p.objects.items objects.items h.among) t.among;
       each = all-append (IsInHand b q) h.objects objects.items (all_as (IsInHand a p) (IsInHand b q) t.keeps h.objects h.each) t.taken;
     }
@@ -147,22 +175,30 @@ module _ {I N B E : Type 0} (Gives : I → Result (Next N B) E → I → Type 0)
     )
 
     -- what became of all that was given
-    pub last_sent : (a b : Bodies) (p : Pending N) (mid now : I) (last : Objects N) (s : Sent B) → HasInHand a p mid → Gives mid (Ok (next.Last last)) now → IsLastSent a p last b s → IsSentSo Gives b i now s
-    last_sent a b p mid now last (sent.All reached) h gives l = (
+    pub last_sent : (a b : Bodies) (p : Pending N) (mid now : I) (last : Objects N) (names : List Name) (s : Sent B) → (h : HasInHand a p mid) → names ≡ names_of h.objects → Gives mid (Ok (next.Last last)) now → IsLastSent a p last b s → IsNamed (names ++ names_of last.objects.items) s → IsSentSo Gives b i now s
+    last_sent a b p mid now last names (sent.All reached) h are gives l named = (
       h.objects ++ last.objects.items,
       record { front = h.objects; mid = mid; so_far = h.so_far; last = last; gives = gives; are = refl; root = l.0 },
       all-append (IsHeldWhole b) h.objects last.objects.items (all_as (IsInHand a p) (IsHeldWhole b) l.1.0 h.objects h.each) l.1.1,
+      subst (λ (ns : List Name). AreInOrder ns reached.names.items) (named_more names (names ++ names_of last.objects.items) h.objects last.objects.items are refl) named,
     )
-    last_sent a b p mid now last (sent.Met name) h gives met = (
+    last_sent a b p mid now last names (sent.Met name) h are gives met named = (
       h.objects ++ last.objects.items,
       inr (last.snapshot, all_given i mid now h.objects last h.so_far gives),
       met_among b (h.objects ++ last.objects.items) (p.objects.items ++ last.objects.items) name (among_both h.objects p.objects.items last.objects.items h.among) met,
     )
-    last_sent a b p mid now last (sent.Bad bad) h gives l = absurd l
+    last_sent a b p mid now last names (sent.Bad bad) h are gives l named = absurd l
 
     -- what was given so far is held, but for what waits
     pub hand_sent : (id : Kind → List ℕ → List ℕ) (alone : Bool) (bodies : Bodies) (p : Pending N) (now : I) (h : HasInHand bodies p now) → IsPendingBatch id alone bodies p → AreSentButABatch bodies h.objects
     hand_sent id alone bodies p now h waits = record { waiting = p.objects.items; among = h.among; limits = waits.limits; each = h.each }
+
+    -- what became of its objects says whether it was found bad
+    pub heard_sent : {F : Type 0} (bodies : Bodies) (now : I) (s : Sent B) (r : Result (End B) F) (P : F → Type 0) → IsSentSo Gives bodies i now s → IfErr r (λ why. IfBad s (P why)) → IfErr r (λ why. IsUnbroken Gives i now ⊎ P why)
+    heard_sent bodies now s (Ok end) P h bad = tt
+    heard_sent bodies now (sent.All reached) (Err why) P h bad = inl (inl (h.0, inr (reached.snapshot, h.1)))
+    heard_sent bodies now (sent.Met name) (Err why) P h bad = inl (inl (h.0, h.1))
+    heard_sent bodies now (sent.Bad b) (Err why) P h bad = inr bad
 
     -- all that was sent is still held
     pub end_on : (a b : Bodies) (now : I) (s : Sent B) (end : End B) → IsWithin a b → end ≡ end_of s → IsSentSo Gives a i now s → IsGivenEnd Gives b i now end

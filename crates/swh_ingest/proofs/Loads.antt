@@ -39,6 +39,14 @@ pub err_as : {T E : Type 0} (r : Result T E) (P Q : E → Type 0) → ((e : E) �
 err_as (Ok t) P Q f h = tt
 err_as (Err e) P Q f h = f e h
 
+pub both_ok : {T E : Type 0} (r : Result T E) (P Q R : T → Type 0) → ((t : T) → P t → Q t → R t) → IfOk r P → IfOk r Q → IfOk r R
+both_ok (Ok t) P Q R f p q = f t p q
+both_ok (Err e) P Q R f p q = tt
+
+pub err_all : {T E : Type 0} (r : Result T E) (P : E → Type 0) → ((e : E) → P e) → IfErr r P
+err_all (Ok t) P f = tt
+err_all (Err e) P f = f e
+
 -- a part of a visit is a load's own
 pub own_mark : {S : Type 0} (w : Protocol S) (A : List Entry → Type 0) (t : Attempt) (number : ℕ) (what : EventKind) → IsMarkOf t number what → IsOwn w.alone A t number what
 own_mark w A t number what m = subst (IsOwn w.alone A t number) (sym m.is) (refl, refl)

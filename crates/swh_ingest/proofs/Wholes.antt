@@ -1,11 +1,11 @@
 -- An input whose first part is all of it.
-use Rattle.std.proofs.Common.{◌≡◌, ◌⊎◌, inl, inr, ℕ, Result, Ok, List, [], ◌∷◌, ◌++◌, refl, sym, ap, ◌∙◌, subst}
+use Rattle.std.proofs.Common.{◌≡◌, ◌⊎◌, inl, inr, ℕ, Result, Ok, Err, List, [], ◌∷◌, ◌++◌, refl, sym, ap, ◌∙◌, subst}
 use Rattle.swh_base.specs.declared.kind.Kind.{Kind}
 use Rattle.swh_base.specs.declared.entry.Entry.{Entry}
 use Rattle.swh_dedup.specs.declared.objects.Objects.{Objects}
 use Rattle.swh_ingest.specs.declared.parts.Next.{Next}
 use Rattle.swh_ingest.specs.declared.parts.Next.TheVariants as next
-use Rattle.swh_ingest.specs.Parts.{objects_in, Gave, GaveSoFar, GaveAll, Broke, IsReadOn, IsWhole, MayHaveGiven, ReachesAll}
+use Rattle.swh_ingest.specs.Parts.{objects_in, Gave, GaveSoFar, GaveAll, Broke, HadNoMemory, IsReadOn, IsWhole, MayHaveGiven, ReachesAll}
 
 module _ {I N B E : Type 0} (id : Kind → List ℕ → List ℕ) (Gives : I → Result (Next N B) E → I → Type 0)
     (whole : (i now : I) (x : Next N B) → Gives i (Ok x) now → IsWhole id x) (i : I) where
@@ -41,6 +41,10 @@ module _ {I N B E : Type 0} (id : Kind → List ℕ → List ℕ) (Gives : I →
 
   pub broke_at_once : (b : B) (now : I) → Broke Gives i b now → Gives i (Ok (next.Bad b)) now
   broke_at_once b now h = subst (λ (j : I). Gives j (Ok (next.Bad b)) now) (first_same h.front h.mid h.so_far) h.gives
+
+  -- there was no memory to read it
+  pub none_at_once : (now : I) → (h : HadNoMemory Gives i now) → Gives i (Err h.fault) now
+  none_at_once now h = subst (λ (j : I). Gives j (Err h.fault) now) (first_same h.front h.mid h.so_far) h.gives
 
   -- It is read once at most.
   read_behind : (mid now : I) → mid ≡ i → (now ≡ mid) ⊎ ((found : Result (Next N B) E) × Gives mid found now) → (now ≡ i) ⊎ ((found : Result (Next N B) E) × Gives i found now)

@@ -58,6 +58,11 @@ module _ {S : Type 0} (id : Kind → List ℕ → List ℕ) (w : Protocol S) whe
     pub unended : AreUnended marks
     pub after_them : StopsAfter id w IsAdded IsTried marks a b why
 
+  -- It stopped as this visit was to be marked as failed.
+  pub record StopsFailing (t : Attempt) (number : ℕ) (b : S) (why : Stop) : Type 0 where
+    pub mid : S
+    pub stops : StopsNow id w (IsWished (wished.Mark t.origin number FailedStatus None)) mid b why
+
   module _ (IsAllowed : List Entry → Type 0) (t : Attempt) (a b : S) where
     -- The visit was opened, as the next of its origin, and its own events were added, up to its end.
     pub record EndsOwn {B : Type 0} (loaded : Loaded B) : Type 0 where

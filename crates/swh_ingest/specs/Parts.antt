@@ -1,9 +1,11 @@
 -- An input that is read part by part: what it may have given where its reading stopped.
-use Rattle.std.specs.Prelude.{◌≡◌, ◌≢◌, ◌⊎◌, ℕ, Bool, true, Result, Ok, None, List, [], ◌∷◌, ◌++◌, Contains}
+use Rattle.std.specs.Prelude.{◌≡◌, ◌≢◌, ◌⊎◌, ℕ, Bool, true, Result, Ok, Err, None, List, [], ◌∷◌, ◌++◌, Contains, IsPermutation, IsSorted}
 use Rattle.std.specs.Global.{Vec}
 use Rattle.swh_base.specs.declared.kind.Kind.{Kind}
 use Rattle.swh_base.specs.declared.entry.Entry.{Entry}
+use Rattle.swh_base.specs.Name.{name_cmp}
 use Rattle.swh_base.specs.Snapshot.{snapshot_name}
+use Rattle.swh_base.specs.declared.name.Name.{Name}
 use Rattle.swh_model.specs.declared.event.EventKind.{EventKind}
 use Rattle.swh_model.specs.declared.event.EventKind.TheVariants.{Batch}
 use Rattle.swh_model.specs.declared.event.Wish.{Wish}
@@ -38,6 +40,11 @@ IsWhole id (next.Bad bad) = Unit {0}
 abbrev pub objects_in : List (List Entry) → List Entry
 objects_in [] = []
 objects_in (part ∷ parts) = part ++ objects_in parts
+
+-- The same names, each as often, in ascending order.
+pub record AreInOrder (names sorted : List Name) : Type 0 where
+  pub same : IsPermutation names sorted
+  pub ascending : IsSorted name_cmp sorted
 
 -- The objects have all that is reached from the snapshot.
 pub record ReachesAll (id : Kind → List ℕ → List ℕ) (objects : List Entry) (snapshot : List ℕ) : Type 0 where
@@ -116,10 +123,26 @@ module _ {I N B E : Type 0} (Gives : I → Result (Next N B) E → I → Type 0)
     pub so_far : GaveSoFar i front mid
     pub rest : (now ≡ mid) ⊎ ((found : Result (Next N B) E) × Gives mid found now)
 
-  -- What became of the objects of an input: all were given and are held, or one of those that were given collides, or the input
+  -- There was no memory for what the input gives next.
+  pub record HadNoMemory (i now : I) : Type 0 where
+    pub front : List Entry
+    pub mid : I
+    pub so_far : GaveSoFar i front mid
+    pub fault : E
+    pub gives : Gives mid (Err fault) now
+
+  -- The input was read up to here, and was not found bad: it gave objects, perhaps all, or there was no memory for more.
+  abbrev pub IsUnbroken : I → I → Type 0
+  IsUnbroken i now = ((objects : List Entry) × MayHaveGiven i objects now) ⊎ HadNoMemory i now
+
+  -- The input is as it was, or was read up to here, and was not found bad.
+  abbrev pub IsSameOrUnbroken : I → I → Type 0
+  IsSameOrUnbroken i now = (now ≡ i) ⊎ IsUnbroken i now
+
+  -- What became of the objects of an input: all were given and are held, and these are their names; or one of those that were given collides, or the input
   -- is bad and those that were given are held, but for a batch at most.
   abbrev pub IsSentSo : Bodies → I → I → Sent B → Type 0
-  IsSentSo bodies i now (sent.All reached) = (objects : List Entry) × GaveAll i objects reached.snapshot now × AllHeld bodies objects
+  IsSentSo bodies i now (sent.All reached) = (objects : List Entry) × GaveAll i objects reached.snapshot now × AllHeld bodies objects × AreInOrder (names_of objects) reached.names.items
   IsSentSo bodies i now (sent.Met name) = (objects : List Entry) × MayHaveGiven i objects now × IsMet bodies objects name
   IsSentSo bodies i now (sent.Bad bad) = BrokeBehind bodies i bad now
 
@@ -171,6 +194,16 @@ abbrev pub end_of : {B : Type 0} → Sent B → End B
 end_of (sent.All reached) = ended.Full reached.snapshot
 end_of (sent.Met name) = ended.Met name
 end_of (sent.Bad bad) = ended.Bad bad
+
+-- Where all was sent, these are the names of all objects.
+abbrev pub IsNamed : {B : Type 0} → List Name → Sent B → Type 0
+IsNamed names (sent.All reached) = AreInOrder names reached.names.items
+IsNamed names _ = Unit {0}
+
+-- Where the input is bad, this holds.
+abbrev pub IfBad : {B : Type 0} → Sent B → Type 0 → Type 0
+IfBad (sent.Bad bad) P = P
+IfBad _ P = Unit {0}
 
 -- Where all was sent, this holds of the snapshot.
 abbrev pub IfAll : {B : Type 0} → Sent B → (List ℕ → Type 0) → Type 0

@@ -4,9 +4,10 @@ ghost use Rattle.swh_base.specs.Snapshot.{snapshot_name};
 ghost use Rattle.swh_base.specs.declared.visit.Status.TheVariants.{Full};
 ghost use Rattle.swh_model.specs.Archive.{IsClosed};
 ghost use Rattle.swh_model.specs.Step.{FitsStatus};
+ghost use Rattle.swh_model.specs.declared.event.Wish.TheVariants.{Mark as WishToMark};
 ghost use Rattle.swh_plan.specs.Plan.{status_of, snapshot_of};
 ghost use Rattle.swh_ingest.specs.Knowing.{held_in};
-ghost use Rattle.swh_ingest.specs.Owning.{attempt_of};
+ghost use Rattle.swh_ingest.specs.Owning.{IsWished, attempt_of};
 ghost use Rattle.swh_ingest.specs.Visiting.{IsMine, HasLast};
 ghost use Rattle.swh_ingest.specs.Walking.{Adds, StopsNow, StopsAfter};
 ghost use Rattle.swh_ingest.specs.Ending.{IsMarkOf, IsMarkAsked};
@@ -88,6 +89,9 @@ pub fn end_as<N: Namer, S, P: Destination<Plan<N>, S>, T: Drop>(
         ((status_of how, snapshot_of how) ∷ []) writer.old writer.new) }
     ensures stops { IfErr result (StopsNow N.id_of (P.protocol destination.now)
         (IsMarkAsked (attempt_of visit.now) visit.now.number) writer.old writer.new) }
+    ensures stops_so { IfErr result (StopsNow N.id_of (P.protocol destination.now)
+        (IsWished (WishToMark visit.now.origin.now visit.now.number (status_of how) (snapshot_of how)))
+        writer.old writer.new) }
 {
     match mark(alloc, destination, writer, visit, how) {
         Ok(()) => Ok(told),

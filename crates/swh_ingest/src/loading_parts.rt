@@ -1,5 +1,5 @@
 // A load of an input that is read part by part: what it makes is sent while it is read.
-ghost use Rattle.std.specs.Prelude.{◌≡◌, ◌∷◌, [], List, ℕ, None, IfOk, IfErr, OnOk};
+ghost use Rattle.std.specs.Prelude.{◌≡◌, ◌⊎◌, ◌∷◌, [], List, ℕ, None, IfOk, IfErr, OnOk};
 ghost use Rattle.swh_base.specs.Snapshot.{snapshot_name};
 ghost use Rattle.swh_base.specs.declared.entry.Entry.{Entry};
 ghost use Rattle.swh_base.specs.declared.visit.Status.TheVariants.{Ongoing, Failed as FailedStatus};
@@ -8,9 +8,9 @@ ghost use Rattle.swh_ingest.specs.Knowing.{held_in};
 ghost use Rattle.swh_ingest.specs.declared.input.Opening.TheVariants.{Found};
 ghost use Rattle.swh_ingest.specs.declared.end.End.TheVariants.{Unread as EndUnread};
 ghost use Rattle.swh_ingest.specs.Ending.{IsMarkOf, IsMarkAsked};
-ghost use Rattle.swh_ingest.specs.Loading.{EndsOwn, IsOwn, IsOwnAsked, StopsLoad, StopsUnended, last_at, statuses_of};
+ghost use Rattle.swh_ingest.specs.Loading.{EndsOwn, IsOwn, IsOwnAsked, StopsFailing, StopsLoad, StopsUnended, last_at, statuses_of};
 ghost use Rattle.swh_ingest.specs.Owning.{attempt, attempt_of};
-ghost use Rattle.swh_ingest.specs.Parts.{AreAllowed, AreGiven, GaveAll, IfAll, IsGivenEndAt, IsGivenEnd, IsReadOn, IsSameOrReadOn, ReachesAll, end_of};
+ghost use Rattle.swh_ingest.specs.Parts.{AreAllowed, AreGiven, GaveAll, IfAll, IfBad, IsGivenEndAt, IsGivenEnd, IsReadOn, IsSameOrReadOn, IsSameOrUnbroken, IsUnbroken, ReachesAll, end_of};
 ghost use Rattle.swh_ingest.specs.Visiting.{IsMine, HasLast};
 ghost use Rattle.swh_ingest.specs.Walking.{Adds, StopsAfter};
 
@@ -83,6 +83,8 @@ fn end_sent<N: Namer, S, P: Destination<Plan<N>, S>, B: Drop, G: Gate>(
     ensures stops { IfErr result (StopsAfter N.id_of (P.protocol destination.now)
         (IsMarkOf (attempt_of visit.now) visit.now.number) (IsMarkAsked (attempt_of visit.now) visit.now.number) []
         writer.old writer.new) }
+    ensures failing { IfErr result (λ why. IfBad sent (StopsFailing N.id_of (P.protocol destination.now)
+        (attempt_of visit.now) visit.now.number writer.new why)) }
 {
     match sent {
         Sent::All(reached) => {
@@ -147,6 +149,8 @@ fn send_and_end<
         (IsOwnAsked (AreGiven (R.gives read.now) input.old) (attempt_of task.now.visit)
         task.now.visit.number) [] writer.old writer.new) }
     ensures input { IsReadOn (R.gives read.now) input.old input.new }
+    ensures heard { IfErr result (λ why. IsUnbroken (R.gives read.now) input.old input.new
+        ⊎ StopsFailing N.id_of (P.protocol destination.now) (attempt_of task.now.visit) task.now.visit.number writer.new why) }
 {
     match send_parts(alloc, destination, writer, read, input) {
         Ok(sent) => end_sent(alloc, destination, writer, &task.visit, sent, task.turn),
@@ -189,6 +193,8 @@ fn load_found<
         (IsOwnAsked (AreGiven (R.gives read.now) input.old) (attempt_of task.now.visit)
         task.now.visit.number) writer.old writer.new) }
     ensures input { IsSameOrReadOn (R.gives read.now) Found input.old input.new }
+    ensures heard { IfErr result (λ why. IsSameOrUnbroken (R.gives read.now) input.old input.new
+        ⊎ StopsFailing N.id_of (P.protocol destination.now) (attempt_of task.now.visit) task.now.visit.number writer.new why) }
 {
     match mark(alloc, destination, writer, &task.visit, How::Ongoing) {
         Ok(()) => send_and_end(alloc, destination, writer, task, read, input),
@@ -232,6 +238,8 @@ fn load_opened<
         (IsOwnAsked (AreAllowed (R.gives job.now.read) job.now.opening input.old)
         (attempt_of task.now.visit) task.now.visit.number) writer.old writer.new) }
     ensures input { IsSameOrReadOn (R.gives job.now.read) job.now.opening input.old input.new }
+    ensures heard { IfErr result (λ why. IsSameOrUnbroken (R.gives job.now.read) input.old input.new
+        ⊎ StopsFailing N.id_of (P.protocol destination.now) (attempt_of task.now.visit) task.now.visit.number writer.new why) }
 {
     match job.opening {
         Opening::Found => load_found(alloc, destination, writer, task, &job.read, input),
@@ -288,6 +296,10 @@ pub fn load_parts<
         (AreAllowed (R.gives job.now.read) job.now.opening input.old)
         (attempt turn.now.worker.now.by job.now.origin.now job.now.kind job.now.date) writer.old writer.new) }
     ensures input { IsSameOrReadOn (R.gives job.now.read) job.now.opening input.old input.new }
+    // It stops behind no input that was found bad, unless the visit was to be marked as failed and was not.
+    ensures heard { IfErr result (λ fault. IsSameOrUnbroken (R.gives job.now.read) input.old input.new
+        ⊎ StopsFailing N.id_of (P.protocol destination.now)
+        (attempt turn.now.worker.now.by job.now.origin.now job.now.kind job.now.date) fault.visit writer.new fault.why) }
 {
     let number = match open_visit(alloc, destination, writer, job.origin, job.kind, job.date) {
         Ok(number) => number,

@@ -1,8 +1,9 @@
 // What an input gives part by part, added to what is held.
-ghost use Rattle.std.specs.Prelude.{◌≡◌, ◌++◌, [], IfOk, IfErr, OnOk};
+ghost use Rattle.std.specs.Prelude.{◌≡◌, ◌-◌, ◌++◌, [], true, false, length, drop, IfOk, IfErr, OnOk};
+ghost use Rattle.swh_dedup.specs.Whole.{names_of};
 ghost use Rattle.swh_ingest.specs.Knowing.{held_in};
 ghost use Rattle.swh_ingest.specs.Owning.{IsBatchAmong, IsBatchAsked};
-ghost use Rattle.swh_ingest.specs.Parts.{AreGiven, IsBatchAskedFor, IsBatchFor, IsLastSent, IsReadOn, IsSentSo};
+ghost use Rattle.swh_ingest.specs.Parts.{AreGiven, IsBatchAskedFor, IsBatchFor, IsLastSent, IsNamed, IsReadOn, IsSentSo, IsUnbroken};
 ghost use Rattle.swh_ingest.specs.Sending.{IsPendingBatch};
 ghost use Rattle.swh_ingest.specs.Walking.{Adds, StopsAfter};
 
@@ -30,7 +31,9 @@ pub enum Sent<B> {
 }
 
 /// Adds the names of objects.
-fn add_names<N: Namer>(names: &mut Vec<Name>, objects: &[Object<N>]) -> Result<(), Memory> {
+fn add_names<N: Namer>(names: &mut Vec<Name>, objects: &[Object<N>]) -> Result<(), Memory>
+    ensures { OnOk result (names.new.items ≡ names.old.items ++ names_of objects.now) }
+{
     for object in objects {
         names.push(object.name())?;
     }
@@ -38,7 +41,10 @@ fn add_names<N: Namer>(names: &mut Vec<Name>, objects: &[Object<N>]) -> Result<(
 }
 
 /// The names of a part, which stand last, or none where all of the part waits.
-fn names_to_share(names: &[Name], part: usize, all_wait: bool) -> &[Name] {
+fn names_to_share(names: &[Name], part: usize, all_wait: bool) -> &[Name]
+    ensures none { all_wait ≡ true → result.now ≡ [] }
+    ensures last { all_wait ≡ false → result.now ≡ drop (length names.now - part) names.now }
+{
     if all_wait {
         return &[];
     }
@@ -81,6 +87,7 @@ fn send_rest<N: Namer, S, P: Destination<Plan<N>, S>, B: Drop>(
         (held_in ((P.protocol destination.now).known writer.old)) pending }
     ensures sent { IfOk result (IsLastSent (held_in ((P.protocol destination.now).known writer.old)) pending made
         (held_in ((P.protocol destination.now).known writer.new))) }
+    ensures named { IfOk result (IsNamed (names.items ++ names_of made.objects.items)) }
     ensures adds { OnOk result (Adds (P.protocol destination.now)
         (IsBatchAmong (P.protocol destination.now).alone (pending.objects.items ++ made.objects.items)) [] writer.old writer.new) }
     ensures stops { IfErr result (StopsAfter N.id_of (P.protocol destination.now)
@@ -125,6 +132,8 @@ pub fn send_parts<
         (IsBatchFor (P.protocol destination.now).alone (AreGiven (R.gives read.now) input.old))
         (IsBatchAskedFor (AreGiven (R.gives read.now) input.old)) [] writer.old writer.new) }
     ensures input { IsReadOn (R.gives read.now) input.old input.new }
+    // It stops behind no input that is found bad.
+    ensures unbroken { IfErr result (λ _. IsUnbroken (R.gives read.now) input.old input.new) }
 {
     let mut pending = Pending::new(alloc);
     let mut names = Vec::new(alloc);

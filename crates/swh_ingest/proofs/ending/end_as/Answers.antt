@@ -22,3 +22,6 @@ returns-in-Err-clause-stops g c =
     let status = status_of c.args.how in
     let snapshot = snapshot_of c.args.how in
     asking_as g.N.Namer.id_of (g.P.Destination.protocol c.args.destination.now) (g.met.P.Destination.lawful c.args.destination.now) (IsWished (wished.Mark t.origin v.number status snapshot)) (IsMarkAsked t v.number) c.args.writer.now c.mark.new.writer c.in-Err.why (asked_mark t v.number status snapshot) c.in-Err.ensures.stops
+
+pub returns-in-Err-clause-stops_so : goal.returns-in-Err-clause-stops_so
+returns-in-Err-clause-stops_so g c = c.in-Err.ensures.stops

@@ -1,13 +1,14 @@
 use Rattle.std.proofs.Common.{◌≡◌, None, [], ◌∷◌, refl, subst, sym}
-use Rattle.swh_base.specs.declared.visit.Status.TheVariants.{Ongoing}
+use Rattle.swh_base.specs.declared.visit.Status.TheVariants.{Ongoing, Failed}
+use Rattle.swh_model.specs.declared.event.Wish.TheVariants as wished
 use Rattle.swh_ingest.specs.declared.end.End.TheVariants.{Bad, Met}
-use Rattle.swh_ingest.specs.Owning.{attempt_of}
+use Rattle.swh_ingest.specs.Owning.{IsWished, attempt_of}
 use Rattle.swh_ingest.specs.Ending.{IsMarkOf, IsMarkAsked}
-use Rattle.swh_ingest.specs.Loading.{last_at, statuses_of}
-use Rattle.swh_ingest.specs.Parts.{end_of}
+use Rattle.swh_ingest.specs.Loading.{StopsFailing, last_at, statuses_of}
+use Rattle.swh_ingest.specs.Parts.{IfBad, end_of}
 use Rattle.swh_ingest.specs.Visiting.{HasLast}
 use Rattle.swh_ingest.specs.Walking.{Adds, StopsNow, StopsAfter}
-use Rattle.swh_ingest.proofs.Loads.{err_as, ok_as, told_so}
+use Rattle.swh_ingest.proofs.Loads.{err_all, err_as, ok_as, told_so}
 use Rattle.swh_ingest.proofs.Steps.{after_now}
 use Rattle.swh_ingest.proofs.loading_parts.end_sent.Goals as goal
 
@@ -69,3 +70,19 @@ returns-in-Bad-clause-stops g c =
     let b = c.end_as-in-Bad.new.writer in
     err_as c.end_as-in-Bad.result (StopsNow id w (IsMarkAsked t v.number) c.args.writer.now b) (StopsAfter id w (IsMarkOf t v.number) (IsMarkAsked t v.number) [] c.args.writer.now b)
     (λ why stops. after_now id w (g.met.P.Destination.lawful c.args.destination.now) (IsMarkOf t v.number) (IsMarkAsked t v.number) c.args.writer.now b why c.requires.ready stops) c.end_as-in-Bad.ensures.stops
+
+pub returns-in-Met-clause-failing : goal.returns-in-Met-clause-failing
+returns-in-Met-clause-failing g c =
+    let v = c.args.visit.now in
+    let F = StopsFailing g.N.Namer.id_of (g.P.Destination.protocol c.args.destination.now) (attempt_of v) v.number c.end_as.new.writer in
+    err_all c.end_as.result (λ why. IfBad c.args.sent (F why)) (λ why. subst (λ s. IfBad s (F why)) (sym c.in-Met.is) tt)
+
+pub returns-in-Bad-clause-failing : goal.returns-in-Bad-clause-failing
+returns-in-Bad-clause-failing g c =
+    let v = c.args.visit.now in
+    let t = attempt_of v in
+    let id = g.N.Namer.id_of in
+    let w = g.P.Destination.protocol c.args.destination.now in
+    let b = c.end_as-in-Bad.new.writer in
+    err_as c.end_as-in-Bad.result (StopsNow id w (IsWished (wished.Mark t.origin v.number Failed None)) c.args.writer.now b) (λ why. IfBad c.args.sent (StopsFailing id w t v.number b why))
+    (λ why stops. subst (λ s. IfBad s (StopsFailing id w t v.number b why)) (sym c.in-Bad.is) (record { mid = c.args.writer.now; stops = stops })) c.end_as-in-Bad.ensures.stops_so

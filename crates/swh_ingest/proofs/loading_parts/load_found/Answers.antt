@@ -1,11 +1,12 @@
-use Rattle.std.proofs.Common.{inl, inr, None, [], ◌∷◌, refl}
+use Rattle.std.proofs.Common.{◌⊎◌, inl, inr, None, [], ◌∷◌, refl}
 use Rattle.swh_base.specs.declared.visit.Status.TheVariants.{Ongoing}
 use Rattle.swh_ingest.specs.Owning.{attempt_of}
 use Rattle.swh_ingest.specs.Ending.{IsMarkOf}
-use Rattle.swh_ingest.specs.Loading.{IsOwn, IsOwnAsked, StopsUnended}
-use Rattle.swh_ingest.specs.Parts.{AreGiven}
+use Rattle.swh_ingest.specs.Loading.{IsOwn, IsOwnAsked, StopsFailing, StopsUnended}
+use Rattle.swh_ingest.specs.Parts.{AreGiven, IsSameOrUnbroken, IsUnbroken}
 use Rattle.swh_ingest.specs.Walking.{StopsAfter}
 use Rattle.swh_ingest.proofs.Ends.{mine_on}
+use Rattle.swh_ingest.proofs.InHand.{heard_on}
 use Rattle.swh_ingest.proofs.Loads.{begun, begun_all, begun_own_stops, err_as, not_begun, unended_own}
 use Rattle.swh_ingest.proofs.Steps.{adds_ready}
 use Rattle.swh_ingest.proofs.loading_parts.load_found.Goals as goal
@@ -56,3 +57,15 @@ returns-in-Err-clause-stops g c =
 
 pub returns-in-Err-clause-input : goal.returns-in-Err-clause-input
 returns-in-Err-clause-input g c = inl refl
+
+pub returns-in-Ok-clause-heard : goal.returns-in-Ok-clause-heard
+returns-in-Ok-clause-heard g c =
+    let v = c.args.task.now.visit in
+    let i = c.args.input.now in
+    let now = c.send_and_end.new.input in
+    let gives = g.R.ReadsParts.gives c.args.read.now in
+    let F = StopsFailing g.N.Namer.id_of (g.P.Destination.protocol c.args.destination.now) (attempt_of v) v.number c.send_and_end.new.writer in
+    err_as c.send_and_end.result (λ why. IsUnbroken gives i now ⊎ F why) (λ why. IsSameOrUnbroken gives i now ⊎ F why) (λ why h. heard_on gives i now (F why) h) c.send_and_end.ensures.heard
+
+pub returns-in-Err-clause-heard : goal.returns-in-Err-clause-heard
+returns-in-Err-clause-heard g c = inl (inl refl)

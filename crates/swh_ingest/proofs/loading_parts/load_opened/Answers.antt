@@ -9,7 +9,7 @@ use Rattle.swh_ingest.specs.Loading.{IsOwn, IsOwnAsked, StopsUnended, last_at, s
 use Rattle.swh_ingest.specs.Visiting.{HasLast}
 use Rattle.swh_ingest.specs.Walking.{Adds, StopsNow}
 use Rattle.swh_ingest.specs.Parts.{AreAllowed, AreGiven}
-use Rattle.swh_ingest.proofs.Loads.{err_as, marks_own, now_own, ok_as, on_as, own_as, own_asked_as, told_so, unended_as, unended_now, unended_own}
+use Rattle.swh_ingest.proofs.Loads.{err_all, err_as, marks_own, now_own, ok_as, on_as, own_as, own_asked_as, told_so, unended_as, unended_now, unended_own}
 use Rattle.swh_ingest.proofs.Owned.{allowed_found, end_absent, end_found, end_unread, same_found}
 use Rattle.swh_ingest.proofs.Steps.{adds_as}
 use Rattle.swh_ingest.proofs.loading_parts.load_opened.Goals as goal
@@ -139,3 +139,12 @@ returns-in-Memory-clause-stops g c =
 
 pub returns-in-Memory-clause-input : goal.returns-in-Memory-clause-input
 returns-in-Memory-clause-input g c = inl refl
+
+pub returns-in-NotFound-clause-heard : goal.returns-in-NotFound-clause-heard
+returns-in-NotFound-clause-heard g c = err_all c.end_as.result _ (λ why. inl (inl refl))
+
+pub returns-in-Failed-clause-heard : goal.returns-in-Failed-clause-heard
+returns-in-Failed-clause-heard g c = err_all c.end_unread.result _ (λ why. inl (inl refl))
+
+pub returns-in-Memory-clause-heard : goal.returns-in-Memory-clause-heard
+returns-in-Memory-clause-heard g c = inl (inl refl)

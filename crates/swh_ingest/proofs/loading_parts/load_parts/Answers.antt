@@ -43,3 +43,6 @@ returns-in-Err-load_opened-clause-stops g c =
       opened = opens_by g.N.Namer.id_of (g.P.Destination.protocol c.args.destination.now) (g.met.P.Destination.lawful c.args.destination.now) job.origin.now job.kind job.date by c.args.writer.now c.open_visit.new.writer c.in-Ok.number c.requires.number c.in-Ok.ensures.opened;
       later = c.in-Err-load_opened.ensures.stops;
     })
+
+pub returns-in-Err-clause-heard : goal.returns-in-Err-clause-heard
+returns-in-Err-clause-heard g c = inl (inl refl)

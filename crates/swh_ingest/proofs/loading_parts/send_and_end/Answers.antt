@@ -1,13 +1,13 @@
-use Rattle.std.proofs.Common.{[], ◌∷◌}
+use Rattle.std.proofs.Common.{inl, [], ◌∷◌}
 use Rattle.swh_ingest.specs.Knowing.{held_in}
 use Rattle.swh_ingest.specs.Owning.{attempt_of}
 use Rattle.swh_ingest.specs.Ending.{IsMarkOf, IsMarkAsked}
-use Rattle.swh_ingest.specs.Loading.{IsOwn, IsOwnAsked, last_at}
+use Rattle.swh_ingest.specs.Loading.{IsOwn, IsOwnAsked, StopsFailing, last_at}
 use Rattle.swh_ingest.specs.Parts.{AreGiven, IsBatchFor}
 use Rattle.swh_ingest.specs.Walking.{Adds, StopsAfter}
 use Rattle.swh_ingest.proofs.Ends.{mine_on}
 use Rattle.swh_ingest.proofs.Loads.{err_as, ok_as}
-use Rattle.swh_ingest.proofs.InHand.{ends_given, sent_closed}
+use Rattle.swh_ingest.proofs.InHand.{ends_given, heard_sent, sent_closed}
 use Rattle.swh_ingest.proofs.Owned.{batches_stop, batches_then_mark, batches_then_stop}
 use Rattle.swh_ingest.proofs.Steps.{adds_ready}
 use Rattle.swh_ingest.proofs.loading_parts.send_and_end.Goals as goal
@@ -62,3 +62,13 @@ returns-in-Err-clause-stops g c =
     let v = c.args.task.now.visit in
     let w = g.P.Destination.protocol c.args.destination.now in
     batches_stop g.N.Namer.id_of w (g.met.P.Destination.lawful c.args.destination.now) (AreGiven (g.R.ReadsParts.gives c.args.read.now) c.args.input.now) (attempt_of v) v.number c.args.writer.now c.send_parts.new.writer c.in-Err.why c.in-Err.ensures.stops
+
+pub returns-in-Ok-clause-heard : goal.returns-in-Ok-clause-heard
+returns-in-Ok-clause-heard g c =
+    let v = c.args.task.now.visit in
+    let w = g.P.Destination.protocol c.args.destination.now in
+    heard_sent (g.R.ReadsParts.gives c.args.read.now) c.args.input.now (held_in (w.known c.send_parts.new.writer)) c.send_parts.new.input c.in-Ok.sent c.end_sent.result
+    (StopsFailing g.N.Namer.id_of w (attempt_of v) v.number c.end_sent.new.writer) c.in-Ok.ensures.sent c.end_sent.ensures.failing
+
+pub returns-in-Err-clause-heard : goal.returns-in-Err-clause-heard
+returns-in-Err-clause-heard g c = inl c.in-Err.ensures.unbroken
