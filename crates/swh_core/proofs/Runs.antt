@@ -1,6 +1,8 @@
 -- Runs of steps.
-use Rattle.std.proofs.Common.{◌≡◌, inl, inr, ℕ, Result, Ok, Err, List, [], ◌∷◌, ◌++◌, length, drop, refl, sym, ap, ◌∙◌, subst, arith, append_assoc}
+use Rattle.std.proofs.Common.{◌≡◌, ◌≢◌, ◌==◌, inl, inr, ℕ, true, false, Result, Ok, Err, List, [], ◌∷◌, ◌++◌, length, drop, refl, sym, ap, ◌∙◌, subst, arith, append_assoc}
 use Rattle.std.proofs.lemmas.List.{append-nil}
+use Rattle.std.specs.Prelude.{vec_len}
+use Rattle.std.specs.Global.{Vec}
 use Rattle.std.specs.List.{AllByRecursion}
 use Rattle.swh_base.specs.declared.kind.Kind.{Kind}
 use Rattle.swh_core.specs.declared.step.Step.{Step}
@@ -18,6 +20,10 @@ pub none_left : {A : Type 0} (xs ys : List A) → xs ≡ ys → ys ≡ drop 1 xs
 none_left [] ys same rest = refl
 none_left (x ∷ xs) ys same rest = absurd (omega (arith, ap length (same ∙ rest)))
 
+-- a vector that is not empty has items
+pub not_empty : {A : Type 0} (v : Vec A) → (vec_len v == 0) ≡ false → v.items ≢ []
+not_empty v some none = let both : true ≡ false = ap (λ (n : ℕ). n == 0) (sym (v.ok.0 ∙ ap length none)) ∙ some in cc
+
 -- what was told before goes before what is told
 abbrev pub behind : List Told → Result (List Told) StepFault → Result (List Told) StepFault
 behind ts (Ok us) = Ok (ts ++ us)
@@ -34,7 +40,7 @@ module _ (id_of : Kind → List ℕ → List ℕ) where
   pub went : (steps : List Step) (r : Result (List Told) StepFault) (w w' : World) → IsWorld id_of w → AllByRecursion (IsMeant id_of (length w.seen)) steps → IsRun id_of w steps r w' → Goes id_of w w'
   went [] (Ok []) w w' k meant run = subst (Goes id_of w) (sym run) (record { kept = k; later = same_later w })
   went [] (Ok (t ∷ ts)) w w' k meant run = absurd run
-  went [] (Err fault) w w' k meant run = subst (Goes id_of w) (sym run.1) (record { kept = k; later = same_later w })
+  went [] (Err fault) w w' k meant run = absurd run
   went (step ∷ steps) (Ok []) w w' k meant run = absurd run
   went (step ∷ steps) (Ok (t ∷ ts)) w w' k meant run =
       let one = stepped id_of step (Ok t) w run.0 k meant.0 run.1 in
@@ -55,9 +61,9 @@ module _ (id_of : Kind → List ℕ → List ℕ) where
   behind_twice ts us (Err fault) = refl
 
   -- without room for the answers no step is taken
-  pub no_room : (steps : List Step) (w : World) → IsRun id_of w steps (Err Memory) w
-  no_room [] w = (refl, refl)
-  no_room (step ∷ steps) w = inl (no_memory step w)
+  pub no_room : (steps : List Step) (w : World) → steps ≢ [] → IsRun id_of w steps (Err Memory) w
+  no_room [] w some = absurd (some refl)
+  no_room (step ∷ steps) w some = inl (no_memory step w)
 
   -- The steps that are left lead on from where the world is.
   pub record RunSoFar (all : List Step) (first : World) (left : List Step) (told : List Told) (now : World) : Type 0 where

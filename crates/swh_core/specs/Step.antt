@@ -96,11 +96,10 @@ module _ (id_of : Kind → List ℕ → List ℕ) where
   IsWorldStep w step (Err Memory) w' = w' ≡ w
   IsWorldStep w step _ w' = ⊥
 
-  -- All steps were taken, one after another, and this was told of them; or those before one that met this fault, or before
-  -- there was no room for what is told.
+  -- All steps were taken, one after another, and this was told of them; or those before one of them that met this fault, which
+  -- left the world as those before it had made it. A list without steps meets none.
   abbrev pub IsRun : World → List Step → Result (List Told) StepFault → World → Type 0
   IsRun w [] (Ok []) w' = w' ≡ w
-  IsRun w [] (Err fault) w' = (fault ≡ Memory) × (w' ≡ w)
   IsRun w (step ∷ steps) (Ok (t ∷ ts)) w' = (mid : World) × IsWorldStep w step (Ok t) mid × IsRun mid steps (Ok ts) w'
   IsRun w (step ∷ steps) (Err fault) w' =
       IsWorldStep w step (Err fault) w'

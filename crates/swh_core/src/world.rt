@@ -94,7 +94,8 @@ impl<N: Namer> World<N> {
         Ok(told)
     }
 
-    /// Takes these steps, one after another, up to the first that is refused.
+    /// Takes these steps, one after another, up to the first that is refused. The world is then as those before it made it. A
+    /// list without steps is never refused.
     pub fn run(&mut self, steps: Vec<Step>) -> Result<Vec<Told>, StepFault>
         requires { AllByRecursion (IsMeant N.id_of (length self.old.seen)) steps.items }
         ensures ok { IfOk result (λ told. IsRun N.id_of self.old steps.items (Ok told.items) self.new) }
@@ -102,6 +103,9 @@ impl<N: Namer> World<N> {
         ensures kept { IsWorld N.id_of self.new }
         ensures later { IsLater self.old self.new }
     {
+        if steps.is_empty() {
+            return Ok(Vec::new(self.alloc));
+        }
         let mut told = match Vec::with_capacity(self.alloc, steps.len()) {
             Ok(told) => told,
             Err(_) => return Err(StepFault::Memory),

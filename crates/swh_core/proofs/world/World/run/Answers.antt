@@ -1,5 +1,5 @@
-use Rattle.std.proofs.Common.{length, ap, arith}
-use Rattle.swh_core.proofs.Runs.{no_room, run_goes_on, run_stops, run_ends, none_left}
+use Rattle.std.proofs.Common.{length, ap, arith, sym, ◌∙◌}
+use Rattle.swh_core.proofs.Runs.{no_room, not_empty, run_goes_on, run_stops, run_ends, none_left}
 use Rattle.swh_core.proofs.world.World.run.Goals as goal
 
 pub steps-preserved : goal.steps-preserved
@@ -13,7 +13,7 @@ steps-preserved g c =
     }
 
 pub returns-in-Err-clause-err : goal.returns-in-Err-clause-err
-returns-in-Err-clause-err g c = no_room g.N.Namer.id_of c.args.steps.items c.args.self.now
+returns-in-Err-clause-err g c = no_room g.N.Namer.id_of c.args.steps.items c.args.self.now (not_empty c.args.steps (sym c.is_empty.ensures ∙ c.if-is_empty.false))
 
 pub returns-in-Err-step-clause-err : goal.returns-in-Err-step-clause-err
 returns-in-Err-step-clause-err g c =
