@@ -70,7 +70,7 @@ module _ {S I N : Type 0} (id : Kind → List ℕ → List ℕ) (sources : Sourc
   step : (before : List Entry) (objects : Vec Entry) (mid now : I) → Stands before mid → Gives mid (Ok (next.Part objects)) now → Stands (before ++ objects.items) now
   step before objects mid now h g = on mid (Ok (next.Part objects)) now before g h
 
-  so_far : (i : I) (objects : List Entry) (now : I) → Stands [] i → GaveSoFar Gives i objects now → Stands objects now
+  pub so_far : (i : I) (objects : List Entry) (now : I) → Stands [] i → GaveSoFar Gives i objects now → Stands objects now
   so_far i objects now h g = so_far_keeps Gives Stands step i now objects h g
 
   ended : (i : I) (objects : List Entry) (snapshot : List ℕ) (now : I) → Stands [] i → (g : GaveAll Gives i objects snapshot now) → EndsBatch id sources source refs g.front (objects_of now) (refs_of now) g.last

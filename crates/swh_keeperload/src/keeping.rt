@@ -54,6 +54,7 @@ pub fn certificate_in<N: Namer, D: Disk>(
     requires { keeper.old.wounded ≡ None }
     ensures looks { AddsOn N.id_of (disks D.tells D.file D.faults) [] keeper.old keeper.new }
     ensures root { result.root ≡ snapshot_name snapshot }
+    ensures names { result.names.items ≡ names.items }
 {
     let _history = keeper.history();
     let kind = Kind::Snapshot;

@@ -1,5 +1,5 @@
 // A load over a keeper, of an input that is read part by part.
-ghost use Rattle.std.specs.Prelude.{◌≡◌, ℕ, List, [], Some, None, IfOk, IfErr, IfSome};
+ghost use Rattle.std.specs.Prelude.{◌≡◌, ◌⊎◌, ℕ, List, [], Some, None, IfOk, IfErr, IfSome};
 ghost use Rattle.swh_base.specs.Snapshot.{snapshot_name};
 ghost use Rattle.swh_base.specs.declared.entry.Entry.{Entry};
 ghost use Rattle.swh_plan.specs.Plan.{wish_of};
@@ -9,8 +9,8 @@ ghost use Rattle.swh_outside.specs.Views.{disks};
 ghost use Rattle.swh_model.specs.Archive.{body_of};
 ghost use Rattle.swh_model.specs.Step.{replay};
 ghost use Rattle.swh_ingest.specs.declared.input.Opening.TheVariants.{Found};
-ghost use Rattle.swh_ingest.specs.Loading.{statuses_of};
-ghost use Rattle.swh_ingest.specs.Parts.{AreAllowed, GaveAll, IsGivenEndAt, IsSameOrReadOn, ReachesAll};
+ghost use Rattle.swh_ingest.specs.Loading.{StopsFailing, statuses_of};
+ghost use Rattle.swh_ingest.specs.Parts.{AreAllowed, GaveAll, IsGivenEndAt, IsSameOrReadOn, IsSameOrUnbroken, ReachesAll};
 ghost use Rattle.swh_ingest.specs.Owning.{attempt};
 ghost use Rattle.swh_keeperload.specs.Alone.{AddsOn, alone_protocol};
 ghost use Rattle.swh_keeperload.specs.Loading.{AddsVisit, EndsVisit, IsHeldBack, MakesVisitCalls, NoCountFell, Stops};
@@ -63,6 +63,10 @@ pub fn load_kept_parts<N: Namer, D: Disk, I, B: Drop, R: ReadsParts<I, Next<N, B
     // The counts of faults, and the input.
     ensures later { NoCountFell (disks D.tells D.file D.faults) keeper.old keeper.new }
     ensures input { IsSameOrReadOn (R.gives job.now.read) job.now.opening input.old input.new }
+    // It stops behind no input that was found bad, unless the visit was to be marked as failed and was not.
+    ensures heard { IfErr result (λ fault. IsSameOrUnbroken (R.gives job.now.read) input.old input.new
+        ⊎ StopsFailing N.id_of (alone_protocol N.id_of (disks D.tells D.file D.faults) turn.now.worker.now.by)
+        (attempt turn.now.worker.now.by job.now.origin.now job.now.kind job.now.date) fault.visit keeper.new fault.why) }
 {
     let by = turn.worker.by;
     let destination = Calls {

@@ -1,5 +1,5 @@
 -- What a load of a batch with its refs leaves that are read part by part.
-use Rattle.std.proofs.Common.{◌≡◌, inl, inr, ℕ, ◌+◌, ◌-◌, ◌<◌, Some, Result, Ok, Err, List, [], sym, subst, arith}
+use Rattle.std.proofs.Common.{◌≡◌, ◌⊎◌, inl, inr, ℕ, ◌+◌, ◌-◌, ◌<◌, Some, Result, Ok, Err, List, [], sym, subst, arith}
 use Rattle.std.specs.Prelude.{IfOk, IfErr}
 use Rattle.std.specs.List.{AllByRecursion}
 use Rattle.swh_base.specs.declared.kind.Kind.{Kind}
@@ -18,10 +18,11 @@ use Rattle.swh_ingest.specs.declared.end.Loaded.{Loaded}
 use Rattle.swh_ingest.specs.declared.end.LoadFault.{LoadFault}
 use Rattle.swh_ingest.specs.declared.input.Opening.TheVariants.{Found}
 use Rattle.swh_ingest.specs.declared.parts.Next.{Next}
-use Rattle.swh_ingest.specs.Loading.{statuses_of}
+use Rattle.swh_ingest.specs.Loading.{StopsFailing, statuses_of}
 use Rattle.swh_ingest.specs.Owning.{Attempt}
 use Rattle.swh_ingest.specs.Parts as walking
 use Rattle.swh_ingest.proofs.Closes.{whole_good}
+use Rattle.swh_keeperload.specs.Alone.{alone_protocol}
 use Rattle.swh_keeperload.specs.Loading.{AddsVisit, EndsVisit, IsHeldBack, MakesVisitCalls, NoCountFell, Stops}
 use Rattle.swh_inputs.specs.Input.{InputText}
 use Rattle.swh_inputs.specs.Input.InputText.{BatchText}
@@ -32,10 +33,10 @@ use Rattle.swh_inputs.specs.declared.bad.InputFault.{InputFault}
 use Rattle.swh_inputs.specs.declared.bad.InputFault.TheVariants as fault
 use Rattle.swh_inputs.specs.declared.input.Input.{Input}
 use Rattle.swh_inputs.specs.declared.input.Input.TheVariants.{Batch}
-use Rattle.swh_inputs.proofs.Batchings.{KeepsBoth, keeps_itself, all_quiet, broke_quiet, broke_so, given_quiet, may_give, means_all, objects_given, reaches_all, read_kept}
+use Rattle.swh_inputs.proofs.Batchings.{KeepsBoth, keeps_itself, all_quiet, broke_quiet, broke_so, given_quiet, may_give, means_all, objects_given, reaches_all, read_kept, so_far}
 use Rattle.swh_loader.specs.Ending.{MayGiveObjects, IsJobEnd, IsQuietEnd, end_for, held_bodies, outcome_for}
 use Rattle.swh_loader.specs.Leaving.{AreAllowed, IsLoadOf}
-use Rattle.swh_loader.proofs.Leaves.{broken_quiet, given_by}
+use Rattle.swh_loader.proofs.Leaves.{broken_quiet, given_by, quiet_as_it_was}
 use Rattle.swh_loader.proofs.Outcomes.{load_of}
 
 -- A batch that gave a part may be read on, and fewer parts may come.
@@ -103,12 +104,19 @@ module _ {S F I N : Type 0} (id : Kind → List ℕ → List ℕ) (p : Parts S F
       batch_quiet now bodies NotFound h = absurd h
       batch_quiet now bodies Unread h = absurd h
 
+      -- And where it stopped.
+      batch_calm : (now : I) → walking.IsSameOrUnbroken Gives i now → IsQuiet p (input i) (input now)
+      batch_calm now (inl still) = subst (λ (x : I). IsQuiet p (input i) (input x)) (sym still) (quiet_as_it_was p (input i))
+      batch_calm now (inr (inl (objects, given))) = quiet_input now (given_quiet id p.sources (objects_of i) (refs_of i) state objects_of refs_of Gives on i objects now begins given)
+      batch_calm now (inr (inr none)) = quiet_input now (hears none.mid (Err none.fault) now none.front none.gives (so_far id p.sources (objects_of i) (refs_of i) state objects_of refs_of Gives on i none.front none.mid begins none.so_far) (λ e. absurd cc))
+
       -- All that is said of the load.
       pub batch_load : {D : Type 0} (disks : Disks D) (a : Attempt) (old new : Kept D) (now : I) (result : Result (Loaded InputFault) LoadFault)
           → IfOk result (λ loaded. EndsVisit a old new loaded.visit (statuses_of loaded.end)) → IfOk result (λ loaded. walking.IsGivenEndAt Gives Found (held_bodies new) i now loaded.end)
           → AddsVisit (walking.AreAllowed Gives Found i) a old.history new.history → (disks.tells → MakesVisitCalls id disks (walking.AreAllowed Gives Found i) a old new) → ((n : ℕ) → old.wounded ≡ Some n → IsHeldBack old new result)
-          → IfErr result (Stops id disks (walking.AreAllowed Gives Found i) a old new) → NoCountFell disks old new → walking.IsSameOrReadOn Gives Found i now → IsLoadOf id p disks a (input i) (input now) old new (outcome_for result)
-      batch_load disks a old new now result ended end adds calls wounded stops later read =
+          → IfErr result (Stops id disks (walking.AreAllowed Gives Found i) a old new) → NoCountFell disks old new → walking.IsSameOrReadOn Gives Found i now → IfErr result (λ fault. walking.IsSameOrUnbroken Gives i now ⊎ StopsFailing id (alone_protocol id disks a.by) a fault.visit new fault.why)
+          → IsLoadOf id p disks a (input i) (input now) old new (outcome_for result)
+      batch_load disks a old new now result ended end adds calls wounded stops later read heard =
           let kept = batch_kept now read in
           load_of id p disks a (input i) (input now) old new (walking.AreAllowed Gives Found i) (walking.IsGivenEndAt Gives Found (held_bodies new) i now)
-          batch_allowed (batch_end now (held_bodies new)) (batch_quiet now (held_bodies new)) result ended end adds calls wounded stops later (kept.same, kept.same_refs)
+          batch_allowed (batch_end now (held_bodies new)) (batch_quiet now (held_bodies new)) (walking.IsSameOrUnbroken Gives i now) (batch_calm now) result ended end adds calls wounded stops later (kept.same, kept.same_refs) heard

@@ -1,5 +1,5 @@
 -- What a load of a stream leaves that is read part by part.
-use Rattle.std.proofs.Common.{◌≡◌, inl, inr, ℕ, ◌-◌, ◌^◌, ◌<◌, ◌≤◌, Option, Some, Result, Ok, Err, List, [], ◌∷◌, refl, sym, ap, ◌∙◌, subst, arith}
+use Rattle.std.proofs.Common.{◌≡◌, ◌⊎◌, inl, inr, ℕ, ◌-◌, ◌^◌, ◌<◌, ◌≤◌, Option, Some, Result, Ok, Err, List, [], ◌∷◌, refl, sym, ap, ◌∙◌, subst, arith}
 use Rattle.std.specs.Prelude.{IfOk, IfErr}
 use Rattle.std.specs.List.{AllByRecursion}
 use Rattle.swh_base.specs.declared.kind.Kind.{Kind}
@@ -18,10 +18,11 @@ use Rattle.swh_ingest.specs.declared.end.Loaded.{Loaded}
 use Rattle.swh_ingest.specs.declared.end.LoadFault.{LoadFault}
 use Rattle.swh_ingest.specs.declared.input.Opening.TheVariants.{Found}
 use Rattle.swh_ingest.specs.declared.parts.Next.{Next}
-use Rattle.swh_ingest.specs.Loading.{statuses_of}
+use Rattle.swh_ingest.specs.Loading.{StopsFailing, statuses_of}
 use Rattle.swh_ingest.specs.Owning.{Attempt}
 use Rattle.swh_ingest.specs.Parts as walking
 use Rattle.swh_ingest.proofs.Closes.{whole_good}
+use Rattle.swh_keeperload.specs.Alone.{alone_protocol}
 use Rattle.swh_keeperload.specs.Loading.{AddsVisit, EndsVisit, IsHeldBack, MakesVisitCalls, NoCountFell, Stops}
 use Rattle.swh_inputs.specs.Input.{InputText}
 use Rattle.swh_inputs.specs.Input.InputText.{StreamText}
@@ -32,7 +33,7 @@ use Rattle.swh_inputs.specs.declared.bad.InputFault.{InputFault}
 use Rattle.swh_inputs.specs.declared.bad.InputFault.TheVariants as fault
 use Rattle.swh_inputs.specs.declared.input.Input.{Input}
 use Rattle.swh_inputs.specs.declared.input.Input.TheVariants.{Fast}
-use Rattle.swh_inputs.proofs.Streamings.{all_quiet, broke_quiet, broke_so, failed_so, given_quiet, may_give, means_all, objects_given, reaches_all, read_kept}
+use Rattle.swh_inputs.proofs.Streamings.{all_quiet, broke_quiet, broke_so, failed_so, given_quiet, may_give, means_all, objects_given, reaches_all, read_kept, so_far}
 use Rattle.swh_loader.specs.Ending.{MayGiveObjects, IsJobEnd, IsQuietEnd, end_for, held_bodies, outcome_for}
 use Rattle.swh_loader.specs.Leaving.{AreAllowed, IsLoadOf}
 use Rattle.swh_loader.proofs.Leaves.{broken_quiet, given_by}
@@ -122,11 +123,18 @@ module _ {S F N : Type 0} (id : Kind → List ℕ → List ℕ) (p : Parts S F) 
         stream_quiet bodies NotFound h = absurd h
         stream_quiet bodies Unread h = absurd h
 
+        -- And where it stopped.
+        stream_calm : walking.IsSameOrUnbroken Gives i now → p.sources.faults back ≡ p.sources.faults s
+        stream_calm (inl still) = faults ∙ ap (λ (x : StreamState). x.standing.place.faults) still ∙ begins.quiet
+        stream_calm (inr (inl (objects, given))) = faults ∙ given_quiet id p.sources.tells head (p.sources.left s) (p.sources.faults s) path Gives on i objects now begins given
+        stream_calm (inr (inr none)) = faults ∙ hears none.mid (Err none.fault) now none.gives (λ e. absurd cc) ∙ (so_far id p.sources.tells head (p.sources.left s) (p.sources.faults s) path Gives on i none.front none.mid begins none.so_far).quiet
+
         -- All that is said of the load.
         pub stream_load : {D : Type 0} (disks : Disks D) (a : Attempt) (old new : Kept D) (name other : ℕ) → path ≡ name ∷ p.sources.path s → other ∷ p.sources.path back ≡ now.standing.place.path → (result : Result (Loaded InputFault) LoadFault)
             → IfOk result (λ loaded. EndsVisit a old new loaded.visit (statuses_of loaded.end)) → IfOk result (λ loaded. walking.IsGivenEndAt Gives Found (held_bodies new) i now loaded.end)
             → AddsVisit (walking.AreAllowed Gives Found i) a old.history new.history → (disks.tells → MakesVisitCalls id disks (walking.AreAllowed Gives Found i) a old new) → ((n : ℕ) → old.wounded ≡ Some n → IsHeldBack old new result)
-            → IfErr result (Stops id disks (walking.AreAllowed Gives Found i) a old new) → NoCountFell disks old new → walking.IsSameOrReadOn Gives Found i now → IsLoadOf id p disks a (input s) (input back) old new (outcome_for result)
-        stream_load disks a old new name other begun ended_at result ended end adds calls wounded stops later read =
+            → IfErr result (Stops id disks (walking.AreAllowed Gives Found i) a old new) → NoCountFell disks old new → walking.IsSameOrReadOn Gives Found i now → IfErr result (λ fault. walking.IsSameOrUnbroken Gives i now ⊎ StopsFailing id (alone_protocol id disks a.by) a fault.visit new fault.why)
+            → IsLoadOf id p disks a (input s) (input back) old new (outcome_for result)
+        stream_load disks a old new name other begun ended_at result ended end adds calls wounded stops later read heard =
             load_of id p disks a (input s) (input back) old new (walking.AreAllowed Gives Found i) (walking.IsGivenEndAt Gives Found (held_bodies new) i now)
-            stream_allowed (stream_end (held_bodies new)) (stream_quiet (held_bodies new)) result ended end adds calls wounded stops later (stream_same name other begun ended_at read)
+            stream_allowed (stream_end (held_bodies new)) (stream_quiet (held_bodies new)) (walking.IsSameOrUnbroken Gives i now) stream_calm result ended end adds calls wounded stops later (stream_same name other begun ended_at read) heard

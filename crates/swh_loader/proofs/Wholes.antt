@@ -19,12 +19,13 @@ use Rattle.swh_ingest.specs.declared.input.Opening.{Opening}
 use Rattle.swh_ingest.specs.declared.input.Opening.TheVariants as opening
 use Rattle.swh_ingest.specs.declared.parts.Next.{Next}
 use Rattle.swh_ingest.specs.declared.parts.Next.TheVariants as next
-use Rattle.swh_ingest.specs.Loading.{statuses_of}
+use Rattle.swh_ingest.specs.Loading.{StopsFailing, statuses_of}
 use Rattle.swh_ingest.specs.Owning.{Attempt, AreAmong}
 use Rattle.swh_ingest.specs.Parts as walking
 use Rattle.swh_ingest.specs.Sending.{AllHeld, IsMet}
 use Rattle.swh_ingest.proofs.Closes.{whole_good}
-use Rattle.swh_ingest.proofs.Wholes.{all_at_once, broke_at_once, given_at_once, read_at_once}
+use Rattle.swh_ingest.proofs.Wholes.{all_at_once, broke_at_once, given_at_once, none_at_once, read_at_once}
+use Rattle.swh_keeperload.specs.Alone.{alone_protocol}
 use Rattle.swh_keeperload.specs.Loading.{AddsVisit, EndsVisit, IsHeldBack, MakesVisitCalls, NoCountFell, Stops}
 use Rattle.swh_inputs.specs.Input.{InputText, MeansInput}
 use Rattle.swh_inputs.specs.Opening.{opening_of}
@@ -104,15 +105,15 @@ module _ {S F N : Type 0} (id : Kind → List ℕ → List ℕ) (p : Parts S F) 
   end_at opening.Memory bodies now end h = absurd h
 
   -- Where reading tells each failure, so does the load.
-  module _ (hears : (i now : Input S F) (x : Next N InputFault) → Gives i (Ok x) now → (IsReadFault (Ok x) → ⊥) → IsQuiet p i now) where
+  module _ (hears : (i now : Input S F) (found : Result (Next N InputFault) Memory) → Gives i found now → (IsReadFault found → ⊥) → IsQuiet p i now) where
     found_quiet : (bodies : Bodies) (now : Input S F) (end : walk.End InputFault) → walking.IsGivenEnd Gives bodies i now end → IsQuietEnd p i now (end_for end)
     found_quiet bodies now (Full snapshot) h =
         let g = all_at_once id Gives whole i h.0 snapshot now h.1 in
-        hears i now (next.Last g.made) g.gives (λ e. absurd cc)
+        hears i now (Ok (next.Last g.made)) g.gives (λ e. absurd cc)
     found_quiet bodies now (Met name) h =
         let g = given_at_once id Gives whole i h.0 now h.1 in
-        hears i now (next.Last g.1.made) g.1.gives (λ e. absurd cc)
-    found_quiet bodies now (Bad bad) h = broken_quiet p i now bad (λ untold. hears i now (next.Bad bad) (broke_at_once id Gives whole i bad now h.broke) (λ e. untold (let same : bad ≡ fault.ReadFault = cc in same)))
+        hears i now (Ok (next.Last g.1.made)) g.1.gives (λ e. absurd cc)
+    found_quiet bodies now (Bad bad) h = broken_quiet p i now bad (λ untold. hears i now (Ok (next.Bad bad)) (broke_at_once id Gives whole i bad now h.broke) (λ e. untold (let same : bad ≡ fault.ReadFault = cc in same)))
     found_quiet bodies now NotFound h = absurd h
     found_quiet bodies now Unread h = absurd h
 
@@ -121,6 +122,12 @@ module _ {S F N : Type 0} (id : Kind → List ℕ → List ℕ) (p : Parts S F) 
     quiet_at opening.NotFound bodies now end h = subst (λ (e : walk.End InputFault). IsQuietEnd p i now (end_for e)) (sym h.0) (subst (IsQuiet p i) (sym h.1) (quiet_as_it_was p i))
     quiet_at opening.Failed bodies now end h = subst (λ (e : walk.End InputFault). IsQuietEnd p i now (end_for e)) (sym h.0) tt
     quiet_at opening.Memory bodies now end h = absurd h
+
+    -- And where it stopped.
+    whole_calm : (now : Input S F) → walking.IsSameOrUnbroken Gives i now → IsQuiet p i now
+    whole_calm now (inl still) = subst (IsQuiet p i) (sym still) (quiet_as_it_was p i)
+    whole_calm now (inr (inl (objects, given))) = let g = given_at_once id Gives whole i objects now given in hears i now (Ok (next.Last g.1.made)) g.1.gives (λ e. absurd cc)
+    whole_calm now (inr (inr none)) = hears i now (Err none.fault) (none_at_once id Gives whole i now none) (λ e. absurd cc)
 
     -- The parts of the input are the same.
     module _ (same : (i now : Input S F) (found : Result (Next N InputFault) Memory) → Gives i found now → IsSameInput p i now) where
@@ -136,7 +143,8 @@ module _ {S F N : Type 0} (id : Kind → List ℕ → List ℕ) (p : Parts S F) 
       pub whole_load : {D : Type 0} (disks : Disks D) (a : Attempt) (old new : Kept D) (now : Input S F) (result : Result (Loaded InputFault) LoadFault)
           → IfOk result (λ loaded. EndsVisit a old new loaded.visit (statuses_of loaded.end)) → IfOk result (λ loaded. walking.IsGivenEndAt Gives (opening_of i) (held_bodies new) i now loaded.end)
           → AddsVisit (walking.AreAllowed Gives (opening_of i) i) a old.history new.history → (disks.tells → MakesVisitCalls id disks (walking.AreAllowed Gives (opening_of i) i) a old new) → ((n : ℕ) → old.wounded ≡ Some n → IsHeldBack old new result)
-          → IfErr result (Stops id disks (walking.AreAllowed Gives (opening_of i) i) a old new) → NoCountFell disks old new → walking.IsSameOrReadOn Gives (opening_of i) i now → IsLoadOf id p disks a i now old new (outcome_for result)
-      whole_load disks a old new now result ended end adds calls wounded stops later was =
+          → IfErr result (Stops id disks (walking.AreAllowed Gives (opening_of i) i) a old new) → NoCountFell disks old new → walking.IsSameOrReadOn Gives (opening_of i) i now → IfErr result (λ fault. walking.IsSameOrUnbroken Gives i now ⊎ StopsFailing id (alone_protocol id disks a.by) a fault.visit new fault.why)
+          → IsLoadOf id p disks a i now old new (outcome_for result)
+      whole_load disks a old new now result ended end adds calls wounded stops later was heard =
           load_of id p disks a i now old new (walking.AreAllowed Gives (opening_of i) i) (walking.IsGivenEndAt Gives (opening_of i) (held_bodies new) i now)
-          (allowed_at (opening_of i)) (end_at (opening_of i) (held_bodies new) now) (quiet_at (opening_of i) (held_bodies new) now) result ended end adds calls wounded stops later (same_input (opening_of i) now was)
+          (allowed_at (opening_of i)) (end_at (opening_of i) (held_bodies new) now) (quiet_at (opening_of i) (held_bodies new) now) (walking.IsSameOrUnbroken Gives i now) (whole_calm now) result ended end adds calls wounded stops later (same_input (opening_of i) now was) heard

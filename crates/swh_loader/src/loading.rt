@@ -8,7 +8,7 @@ ghost use Rattle.swh_inputs.specs.Opening.{kind_of};
 ghost use Rattle.swh_inputs.specs.Parts.{HasGoodHead, IsQuiet, IsSameInput, folders, parts};
 ghost use Rattle.swh_inputs.specs.Reading.{IsRead, IsReadFault, MayBeRead};
 ghost use Rattle.swh_loader.specs.Ending.{IsJobEnd, IsQuietEnd, held_bodies, statuses_of};
-ghost use Rattle.swh_loader.specs.Leaving.{AreAllowed, IsLoadOf, IsSameJob};
+ghost use Rattle.swh_loader.specs.Leaving.{AreAllowed, HeardNoFailure, IsLoadOf, IsSameJob};
 ghost use Rattle.swh_loader.specs.Report.{detail_limit, end_room};
 
 use crate::batching::load_batch;
@@ -86,6 +86,11 @@ pub fn load_one<N: Namer, D: Disk, S: Source, F: Folder, G: Gate>(
     // Nothing fails unheard: unless the end tells that a part of the input failed, none did.
     ensures quiet { IfOk result (λ loaded. IsQuietEnd (parts (sources S.tells S.left S.faults S.path)
         (folders F.tells F.holds F.faults F.opened_at)) job.old.input job.new.input loaded.end) }
+    // Where it stops none failed either, unless it stops as the visit was to be marked as failed.
+    ensures heard { IfErr result (HeardNoFailure N.id_of (parts (sources S.tells S.left S.faults S.path)
+        (folders F.tells F.holds F.faults F.opened_at)) (disks D.tells D.file D.faults)
+        (attempt turn.now.worker.now.by job.old.origin (kind_of job.old.input) date)
+        job.old.input job.new.input keeper.new) }
     // Its report has a bound by the kind of the input.
     ensures short { IfOk result (λ loaded. end_room loaded.end ≤ detail_limit (kind_of job.old.input)) }
 

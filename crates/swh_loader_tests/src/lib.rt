@@ -27,6 +27,8 @@ mod job_rows;
 #[cfg(test)]
 mod job_world;
 #[cfg(test)]
+mod lent_bodies;
+#[cfg(test)]
 mod lines;
 #[cfg(test)]
 mod loaded_inputs;

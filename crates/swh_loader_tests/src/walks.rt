@@ -121,7 +121,7 @@ pub fn content_of(alloc: Global, body: Vec<u8>) -> Result<Object<ByteNamer>, All
 }
 
 // A plan of one content.
-fn content(alloc: Global, body: &[u8]) -> Result<Plan<ByteNamer>, AllocError> {
+pub fn content(alloc: Global, body: &[u8]) -> Result<Plan<ByteNamer>, AllocError> {
     let mut objects = Vec::with_capacity(alloc, 1)?;
     objects.push(content_of(alloc, body.to_vec(alloc)?)?)?;
     Ok(Plan::Batch(objects))

@@ -55,7 +55,7 @@ returns-clause-load g c =
     (record { same_reference = r.3.1.1.1.0; same_refs_reference = r.3.1.1.1.1.0; same = r.3.1.1.1.1.1.0; same_refs = r.3.1.1.1.1.1.1 })))
     (λ a x now given r h untold. subst (λ (b : BatchInput g.row.N.Denot g.row.S.Denot). AreQuiet p.sources i.objects.now i.refs.now b.objects.now b.refs.now) r.4
     (r.3.1.0 i.objects.now i.refs.now given (subst (λ (b : BatchInput g.row.N.Denot g.row.S.Denot). GoesOn id p.sources i.objects.now i.refs.now given b.parts b.objects.now b.refs.now) (sym r.2) h) untold))
-    d a c.args.keeper.now c.load_kept_parts.new.keeper back c.load_kept_parts.result said.ended said.end said.adds said.calls said.wounded said.stops said.later said.input)
+    d a c.args.keeper.now c.load_kept_parts.new.keeper back c.load_kept_parts.result said.ended said.end said.adds said.calls said.wounded said.stops said.later said.input said.heard)
 
 pub returns-clause-same_reference : goal.returns-clause-same_reference
 returns-clause-same_reference g c =

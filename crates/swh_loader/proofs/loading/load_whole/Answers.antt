@@ -41,4 +41,4 @@ returns g c =
     (λ i now x r. subst (λ (b : Input g.row.S.Denot g.row.F.Denot). IsSameInput p b now) r.2 (subst (λ (b : Input g.row.S.Denot g.row.F.Denot). IsSameInput p r.0.now b) r.4 r.3.1.1.0))
     d a c.args.keeper.now c.load_kept_parts.new.keeper now c.load_kept_parts.result
     (rw c.kind.ensures at said.ended) (rw c.opening.ensures at said.end) (rw (c.opening.ensures, c.kind.ensures) at said.adds) (λ told. rw (c.opening.ensures, c.kind.ensures) at said.calls told) said.wounded
-    (rw (c.opening.ensures, c.kind.ensures) at said.stops) said.later (rw c.opening.ensures at said.input))
+    (rw (c.opening.ensures, c.kind.ensures) at said.stops) said.later (rw c.opening.ensures at said.input) (rw c.kind.ensures at said.heard))

@@ -57,7 +57,7 @@ returns-clause-load g c =
     c.new-parts.result c.new-parts.ensures c.load_kept_parts.new.input back c.close.ensures.faults
     (λ i x now r. subst (λ (b : StreamState). Keeps b now) r.2 (subst (λ (b : StreamState). Keeps r.0.now b) r.4 (r.3.1.1.1.1.0, r.3.1.1.1.1.1)))
     (λ i x now r untold. subst (λ (b : StreamState). now.standing.place.faults ≡ b.standing.place.faults) r.2 (subst (λ (b : StreamState). b.standing.place.faults ≡ r.0.now.standing.place.faults) r.4 (r.3.1.0 untold)))
-    d a c.args.keeper.now c.load_kept_parts.new.keeper c.args.source.ghost_name c.close.result.source.ghost_name refl c.close.ensures.path c.load_kept_parts.result said.ended said.end said.adds said.calls said.wounded said.stops said.later said.input)
+    d a c.args.keeper.now c.load_kept_parts.new.keeper c.args.source.ghost_name c.close.result.source.ghost_name refl c.close.ensures.path c.load_kept_parts.result said.ended said.end said.adds said.calls said.wounded said.stops said.later said.input said.heard)
 
 pub returns-clause-same_reference : goal.returns-clause-same_reference
 returns-clause-same_reference g c =
