@@ -1,5 +1,5 @@
 use Rattle.std.proofs.Common.{◌≡◌, inl, refl, rules, sym, subst, [], ◌++◌}
-use Rattle.std.proofs.lemmas.Result.{IfOk-weaker, IfErr-weaker, on_ok_weaker}
+use Rattle.std.proofs.lemmas.Result.{IfErr-weaker, on_ok_weaker}
 use Rattle.swh_dedup.specs.Whole.{names_of}
 use Rattle.swh_ingest.specs.Knowing.{held_in}
 use Rattle.swh_ingest.specs.Owning.{IsBatchAmong, IsBatchAsked}
