@@ -32,21 +32,22 @@ fn keeps(request: &Request, closes: bool, number: u64) -> bool
 fn answer_request<S, A: Desk<S>, K: Sink>(
     spare: &Spare,
     desk: &A,
+    date: u64,
     seat: &mut S,
     sink: &mut K,
     request: &Request,
     number: u64,
 ) -> Result<bool, PutFault>
     requires fits { A.fits desk.now }
-    requires ready { (A.protocol desk.now).ready seat.old }
+    requires ready { (A.protocol desk.now date).ready seat.old }
     requires starved { spare.now.starved ≡ starved_reply }
     requires few { number < requests_limit }
-    ensures ends { IsAskEnd (A.protocol desk.now) K.tells number (Asked request.now) seat.old seat.new (K.taken sink.old) (K.taken sink.new) result }
-    ensures ready { IfOk result (λ keep. keep ≡ true → (A.protocol desk.now).ready seat.new) }
+    ensures ends { IsAskEnd (A.protocol desk.now date) K.tells number (Asked request.now) seat.old seat.new (K.taken sink.old) (K.taken sink.new) result }
+    ensures ready { IfOk result (λ keep. keep ≡ true → (A.protocol desk.now date).ready seat.new) }
     ensures same_heard { K.heard sink.new ≡ K.heard sink.old }
     ensures cause { IsPutCause (K.faults sink.old) (K.faults sink.new) result }
 {
-    match desk.answer(spare.alloc, seat, request) {
+    match desk.answer(spare.alloc, seat, request, date) {
         Ok(Answered { reply, closes }) => {
             let keep = keeps(request, closes, number);
             put_answer(spare.alloc, sink, request, &reply, keep)
@@ -77,23 +78,24 @@ fn refuse<K: Sink>(spare: &Spare, sink: &mut K, status: u16) -> Result<bool, Put
 fn answer_ask<S, A: Desk<S>, K: Sink>(
     spare: &Spare,
     desk: &A,
+    date: u64,
     seat: &mut S,
     sink: &mut K,
     ask: &Ask,
     number: u64,
 ) -> Result<bool, PutFault>
     requires fits { A.fits desk.now }
-    requires ready { (A.protocol desk.now).ready seat.old }
+    requires ready { (A.protocol desk.now date).ready seat.old }
     requires starved { spare.now.starved ≡ starved_reply }
     requires few { number < requests_limit }
     requires replied { MayBeReplied ask.now }
-    ensures ends { IsAskEnd (A.protocol desk.now) K.tells number ask.now seat.old seat.new (K.taken sink.old) (K.taken sink.new) result }
-    ensures ready { IfOk result (λ keep. keep ≡ true → (A.protocol desk.now).ready seat.new × (number + 1 < requests_limit)) }
+    ensures ends { IsAskEnd (A.protocol desk.now date) K.tells number ask.now seat.old seat.new (K.taken sink.old) (K.taken sink.new) result }
+    ensures ready { IfOk result (λ keep. keep ≡ true → (A.protocol desk.now date).ready seat.new × (number + 1 < requests_limit)) }
     ensures same_heard { K.heard sink.new ≡ K.heard sink.old }
     ensures cause { IsPutCause (K.faults sink.old) (K.faults sink.new) result }
 {
     match ask {
-        Ask::Request(request) => answer_request(spare, desk, seat, sink, request, number),
+        Ask::Request(request) => answer_request(spare, desk, date, seat, sink, request, number),
         Ask::Refused { status } => refuse(spare, sink, *status),
     }
 }
@@ -102,24 +104,25 @@ fn answer_ask<S, A: Desk<S>, K: Sink>(
 pub fn answer_asks<S, A: Desk<S>, K: Sink>(
     spare: &Spare,
     desk: &A,
+    date: u64,
     seat: &mut S,
     sink: &mut K,
     asks: &[Ask],
     number: u64,
 ) -> Result<Progress, PutFault>
     requires fits { A.fits desk.now }
-    requires ready { (A.protocol desk.now).ready seat.old }
+    requires ready { (A.protocol desk.now date).ready seat.old }
     requires starved { spare.now.starved ≡ starved_reply }
     requires few { number < requests_limit }
     requires replied { All MayBeReplied asks.now }
-    ensures replied { AreReplied (A.protocol desk.now) K.tells number asks.now seat.old seat.new (K.taken sink.old) (K.taken sink.new) result }
-    ensures ready { IfOk result (λ progress. IsReadyBehind (A.protocol desk.now) seat.new progress) }
+    ensures replied { AreReplied (A.protocol desk.now date) K.tells number asks.now seat.old seat.new (K.taken sink.old) (K.taken sink.new) result }
+    ensures ready { IfOk result (λ progress. IsReadyBehind (A.protocol desk.now date) seat.new progress) }
     ensures same_heard { K.heard sink.new ≡ K.heard sink.old }
     ensures cause { IsPutCause (K.faults sink.old) (K.faults sink.new) result }
 {
     let mut requests = number;
     'asks: for ask in asks {
-        let kept = match answer_ask(spare, desk, seat, sink, ask, requests) {
+        let kept = match answer_ask(spare, desk, date, seat, sink, ask, requests) {
             Ok(kept) => kept,
             Err(fault) => return Err(fault),
         };

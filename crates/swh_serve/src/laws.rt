@@ -1,5 +1,5 @@
 //! What the definitions determine.
-ghost use Rattle.std.specs.Prelude.{◌≡◌, ◌≤◌, Bool, List, codes, length};
+ghost use Rattle.std.specs.Prelude.{ℕ, ◌≡◌, ◌≤◌, Bool, List, codes, length};
 ghost use Rattle.swh_base.specs.declared.request.Request.{Request};
 ghost use Rattle.swh_base.specs.declared.request.Reply.{Reply};
 ghost use Rattle.swh_http.specs.Reply.{head_text};
@@ -9,7 +9,7 @@ use crate::desk::Desk;
 
 /// At most 1,000 replies go out on a connection, whatever comes in.
 pub fn few_turns<S, A: Desk<S>>()
-    ensures { (desk : A) (turns : List Turn) (s s' : S) → AreTurns (A.protocol desk) 0 turns s s' → length turns ≤ 1000 }
+    ensures { (desk : A) (date : ℕ) (turns : List Turn) (s s' : S) → AreTurns (A.protocol desk date) 0 turns s s' → length turns ≤ 1000 }
 {}
 
 /// Of the reply to a HEAD the head alone goes out.

@@ -52,21 +52,22 @@ fn progress_of(replied: Result<Progress, PutFault>) -> Result<Progress, ServeFau
 fn serve_piece<S, A: Desk<S>, L: Link>(
     spare: &Spare,
     desk: &A,
+    date: u64,
     seat: &mut S,
     link: &mut L,
     reading: &mut Reading,
     requests: u64,
 ) -> Result<Progress, ServeFault>
     requires fits { A.fits desk.now }
-    requires ready { (A.protocol desk.now).ready seat.old }
+    requires ready { (A.protocol desk.now date).ready seat.old }
     requires starved { spare.now.starved ≡ starved_reply }
     requires few { requests < requests_limit }
     requires waits { IsWaiting reading.old.session }
     requires room { 0 < vec_len reading.old.buffer }
     ensures piece { (held : List ℕ) → reading.old.session ≡ Some held
-        → IsPieceEnd (A.protocol desk.now) L.Source.tells requests held seat.old seat.new (seen L.given L.ended L.taken link.old)
+        → IsPieceEnd (A.protocol desk.now date) L.Source.tells requests held seat.old seat.new (seen L.given L.ended L.taken link.old)
         (seen L.given L.ended L.taken link.new) reading.new.session result }
-    ensures ready { IfOk result (λ progress. IsReadyBehind (A.protocol desk.now) seat.new progress) }
+    ensures ready { IfOk result (λ progress. IsReadyBehind (A.protocol desk.now date) seat.new progress) }
     ensures room { vec_len reading.new.buffer ≡ vec_len reading.old.buffer }
     ensures cause { IsServeCause (L.Source.faults link.old) (L.Source.faults link.new) result }
 {
@@ -74,6 +75,7 @@ fn serve_piece<S, A: Desk<S>, L: Link>(
         Ok(Came::Asks(asks)) => progress_of(answer_asks(
             spare,
             desk,
+            date,
             seat,
             link,
             asks.as_slice(),
@@ -92,12 +94,13 @@ fn serve_piece<S, A: Desk<S>, L: Link>(
 pub fn serve_over<S, A: Desk<S>, L: Link>(
     alloc: Global,
     desk: &A,
+    date: u64,
     seat: &mut S,
     link: &mut L,
 ) -> Result<Served, ServeFault>
     requires fits { A.fits desk.now }
-    requires ready { (A.protocol desk.now).ready seat.old }
-    ensures served { IsServed (A.protocol desk.now) L.Source.tells seat.old seat.new (seen L.given L.ended L.taken link.old)
+    requires ready { (A.protocol desk.now date).ready seat.old }
+    ensures served { IsServed (A.protocol desk.now date) L.Source.tells seat.old seat.new (seen L.given L.ended L.taken link.old)
         (seen L.given L.ended L.taken link.new) result }
     ensures cause { IsServeCause (L.Source.faults link.old) (L.Source.faults link.new) result }
 {
@@ -112,7 +115,7 @@ pub fn serve_over<S, A: Desk<S>, L: Link>(
     let mut reading = Reading { session, buffer };
     let mut requests = 0u64;
     'pieces: loop {
-        match serve_piece(&spare, desk, seat, link, &mut reading, requests) {
+        match serve_piece(&spare, desk, date, seat, link, &mut reading, requests) {
             Ok(Progress::Open { requests: more }) => requests = more,
             Ok(Progress::Closed { requests }) => return Ok(Served { requests }),
             Err(fault) => return Err(fault),

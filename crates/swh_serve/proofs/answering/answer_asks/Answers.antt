@@ -10,7 +10,7 @@ use Rattle.swh_serve.proofs.answering.answer_asks.Goals as goal
 
 pub asks-init : goal.asks-init
 asks-init g c = record {
-  replied = replied-none (g.A.Desk.protocol c.args.desk.now) g.K.Sink.tells c.args.number c.args.seat.now (g.K.Sink.taken c.args.sink.now);
+  replied = replied-none (g.A.Desk.protocol c.args.desk.now c.args.date) g.K.Sink.tells c.args.number c.args.seat.now (g.K.Sink.taken c.args.sink.now);
   few = c.requires.few;
   ready = c.requires.ready;
   same_heard = refl;
@@ -19,7 +19,7 @@ asks-init g c = record {
 
 pub returns-in-Err-clause-replied : goal.returns-in-Err-clause-replied
 returns-in-Err-clause-replied g c =
-    replied-fails (g.A.Desk.protocol c.args.desk.now) g.K.Sink.tells c.args.number (take c.asks.ask-index c.args.asks.now) (drop (c.asks.ask-index + 1) c.args.asks.now) c.args.asks.now
+    replied-fails (g.A.Desk.protocol c.args.desk.now c.args.date) g.K.Sink.tells c.args.number (take c.asks.ask-index c.args.asks.now) (drop (c.asks.ask-index + 1) c.args.asks.now) c.args.asks.now
     c.args.seat.now c.asks.seat c.answer_ask.new.seat (g.K.Sink.taken c.args.sink.now) (g.K.Sink.taken c.asks.sink) (g.K.Sink.taken c.answer_ask.new.sink)
     c.asks.requests c.ask-item.result c.in-Err.fault (cut-at c.args.asks.now c.asks.ask-index c.ask-item.result c.asks-test.true c.ask-item.is)
     c.asks.invariant.replied c.in-Err.ensures.ends
@@ -33,8 +33,8 @@ returns-in-Err-clause-cause g c =
 pub returns-then-not-kept-clause-replied : goal.returns-then-not-kept-clause-replied
 returns-then-not-kept-clause-replied g c =
     let shuts : c.in-Ok.kept ≡ false = cc (c.if-not-kept.true) in
-    let P : Bool → Type 0 = λ k. IsAskEnd (g.A.Desk.protocol c.args.desk.now) g.K.Sink.tells c.asks.requests c.ask-item.result c.asks.seat c.answer_ask.new.seat (g.K.Sink.taken c.asks.sink) (g.K.Sink.taken c.answer_ask.new.sink) (Ok k) in
-    replied-closes (g.A.Desk.protocol c.args.desk.now) g.K.Sink.tells c.args.number (take c.asks.ask-index c.args.asks.now) (drop (c.asks.ask-index + 1) c.args.asks.now) c.args.asks.now
+    let P : Bool → Type 0 = λ k. IsAskEnd (g.A.Desk.protocol c.args.desk.now c.args.date) g.K.Sink.tells c.asks.requests c.ask-item.result c.asks.seat c.answer_ask.new.seat (g.K.Sink.taken c.asks.sink) (g.K.Sink.taken c.answer_ask.new.sink) (Ok k) in
+    replied-closes (g.A.Desk.protocol c.args.desk.now c.args.date) g.K.Sink.tells c.args.number (take c.asks.ask-index c.args.asks.now) (drop (c.asks.ask-index + 1) c.args.asks.now) c.args.asks.now
     c.args.seat.now c.asks.seat c.answer_ask.new.seat (g.K.Sink.taken c.args.sink.now) (g.K.Sink.taken c.asks.sink) (g.K.Sink.taken c.answer_ask.new.sink)
     c.asks.requests c.ask-item.result (cut-at c.args.asks.now c.asks.ask-index c.ask-item.result c.asks-test.true c.ask-item.is)
     c.asks.invariant.replied (subst P shuts c.in-Ok.ensures.ends)
@@ -42,12 +42,12 @@ returns-then-not-kept-clause-replied g c =
 pub asks-preserved : goal.asks-preserved
 asks-preserved g c =
     let stays : c.in-Ok.kept ≡ true = cc (c.if-not-kept.false) in
-    let P : Bool → Type 0 = λ k. IsAskEnd (g.A.Desk.protocol c.args.desk.now) g.K.Sink.tells c.asks.requests c.ask-item.result c.asks.seat c.answer_ask.new.seat (g.K.Sink.taken c.asks.sink) (g.K.Sink.taken c.answer_ask.new.sink) (Ok k) in
-    let Q : List Ask → Type 0 = λ l. RepliedSoFar (g.A.Desk.protocol c.args.desk.now) g.K.Sink.tells c.args.number l c.args.seat.now c.answer_ask.new.seat (g.K.Sink.taken c.args.sink.now) (g.K.Sink.taken c.answer_ask.new.sink) (c.asks.requests + 1) in
+    let P : Bool → Type 0 = λ k. IsAskEnd (g.A.Desk.protocol c.args.desk.now c.args.date) g.K.Sink.tells c.asks.requests c.ask-item.result c.asks.seat c.answer_ask.new.seat (g.K.Sink.taken c.asks.sink) (g.K.Sink.taken c.answer_ask.new.sink) (Ok k) in
+    let Q : List Ask → Type 0 = λ l. RepliedSoFar (g.A.Desk.protocol c.args.desk.now c.args.date) g.K.Sink.tells c.args.number l c.args.seat.now c.answer_ask.new.seat (g.K.Sink.taken c.args.sink.now) (g.K.Sink.taken c.answer_ask.new.sink) (c.asks.requests + 1) in
     record {
       replied =
           subst Q (sym (taken-more c.args.asks.now c.asks.ask-index c.ask-item.result c.asks-test.true c.ask-item.is))
-          (replied-more (g.A.Desk.protocol c.args.desk.now) g.K.Sink.tells c.args.number (take c.asks.ask-index c.args.asks.now) c.args.seat.now c.asks.seat c.answer_ask.new.seat
+          (replied-more (g.A.Desk.protocol c.args.desk.now c.args.date) g.K.Sink.tells c.args.number (take c.asks.ask-index c.args.asks.now) c.args.seat.now c.asks.seat c.answer_ask.new.seat
           (g.K.Sink.taken c.args.sink.now) (g.K.Sink.taken c.asks.sink) (g.K.Sink.taken c.answer_ask.new.sink) c.asks.requests c.ask-item.result
           c.asks.invariant.replied (subst P stays c.in-Ok.ensures.ends));
       few = (c.in-Ok.ensures.ready stays).1;
@@ -58,6 +58,6 @@ asks-preserved g c =
 
 pub returns-clause-replied : goal.returns-clause-replied
 returns-clause-replied g c =
-    let Q : List Ask → Type 0 = λ l. RepliedSoFar (g.A.Desk.protocol c.args.desk.now) g.K.Sink.tells c.args.number l c.args.seat.now c.asks.seat (g.K.Sink.taken c.args.sink.now) (g.K.Sink.taken c.asks.sink) c.asks.requests in
-    replied-all (g.A.Desk.protocol c.args.desk.now) g.K.Sink.tells c.args.number c.args.asks.now c.args.seat.now c.asks.seat (g.K.Sink.taken c.args.sink.now) (g.K.Sink.taken c.asks.sink) c.asks.requests
+    let Q : List Ask → Type 0 = λ l. RepliedSoFar (g.A.Desk.protocol c.args.desk.now c.args.date) g.K.Sink.tells c.args.number l c.args.seat.now c.asks.seat (g.K.Sink.taken c.args.sink.now) (g.K.Sink.taken c.asks.sink) c.asks.requests in
+    replied-all (g.A.Desk.protocol c.args.desk.now c.args.date) g.K.Sink.tells c.args.number c.args.asks.now c.args.seat.now c.asks.seat (g.K.Sink.taken c.args.sink.now) (g.K.Sink.taken c.asks.sink) c.asks.requests
     c.asks.invariant.few (subst Q (take_all c.asks.ask-index c.args.asks.now c.asks-test.false) c.asks.invariant.replied)

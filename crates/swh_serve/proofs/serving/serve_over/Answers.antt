@@ -12,16 +12,16 @@ use Rattle.swh_serve.proofs.serving.serve_over.Goals as goal
 
 pub returns-in_default-clause-served : goal.returns-in_default-clause-served
 returns-in_default-clause-served g c =
-    none-begun (g.A.Desk.protocol c.args.desk.now) g.L.Source.tells c.args.seat.now (seen g.L.Source.given g.L.Source.ended g.L.Sink.taken c.args.link.now) c.fresh_session-session.ensures.waits
+    none-begun (g.A.Desk.protocol c.args.desk.now c.args.date) g.L.Source.tells c.args.seat.now (seen g.L.Source.given g.L.Source.ended g.L.Sink.taken c.args.link.now) c.fresh_session-session.ensures.waits
 
 pub returns-in_default-make_spare-clause-served : goal.returns-in_default-make_spare-clause-served
 returns-in_default-make_spare-clause-served g c =
-    none-begun (g.A.Desk.protocol c.args.desk.now) g.L.Source.tells c.args.seat.now (seen g.L.Source.given g.L.Source.ended g.L.Sink.taken c.args.link.now) c.fresh_session-session.ensures.waits
+    none-begun (g.A.Desk.protocol c.args.desk.now c.args.date) g.L.Source.tells c.args.seat.now (seen g.L.Source.given g.L.Source.ended g.L.Sink.taken c.args.link.now) c.fresh_session-session.ensures.waits
 
 pub pieces-init : goal.pieces-init
 pieces-init g c = record {
   goes = λ held s' new result is served.
-      from-start (g.A.Desk.protocol c.args.desk.now) g.L.Source.tells c.fresh_session-session.result held c.args.seat.now s' (seen g.L.Source.given g.L.Source.ended g.L.Sink.taken c.args.link.now) new result
+      from-start (g.A.Desk.protocol c.args.desk.now c.args.date) g.L.Source.tells c.fresh_session-session.result held c.args.seat.now s' (seen g.L.Source.given g.L.Source.ended g.L.Sink.taken c.args.link.now) new result
       c.fresh_session-session.ensures.fresh is served;
   waits = waits-fresh c.fresh_session-session.result c.fresh_session-session.ensures.fresh c.fresh_session-session.ensures.waits;
   room = omega (arith, c.in-Ok.ensures.len);
@@ -32,31 +32,31 @@ pieces-init g c = record {
 
 pub pieces-smaller : goal.pieces-smaller
 pieces-smaller g c =
-    let E : List ℕ → Result Progress ServeFault → Type 0 = λ held r. IsPieceEnd (g.A.Desk.protocol c.args.desk.now) g.L.Source.tells c.pieces.requests held c.pieces.seat
+    let E : List ℕ → Result Progress ServeFault → Type 0 = λ held r. IsPieceEnd (g.A.Desk.protocol c.args.desk.now c.args.date) g.L.Source.tells c.pieces.requests held c.pieces.seat
     c.serve_piece.new.seat (seen g.L.Source.given g.L.Source.ended g.L.Sink.taken c.pieces.link) (seen g.L.Source.given g.L.Source.ended g.L.Sink.taken c.serve_piece.new.link) c.serve_piece.new.reading.session r in
     let went : c.serve_piece.result ≡ Ok (Open c.in-Ok-Open.more) = cc (c.in-Ok-Open.is, c.in-Ok-Open.field-0-is) in
-    let goes : Goes (g.A.Desk.protocol c.args.desk.now) g.L.Source.tells c.pieces.requests c.in-Ok-Open.more c.pieces.reading.session c.serve_piece.new.reading.session
+    let goes : Goes (g.A.Desk.protocol c.args.desk.now c.args.date) g.L.Source.tells c.pieces.requests c.in-Ok-Open.more c.pieces.reading.session c.serve_piece.new.reading.session
     c.pieces.seat c.serve_piece.new.seat (seen g.L.Source.given g.L.Source.ended g.L.Sink.taken c.pieces.link) (seen g.L.Source.given g.L.Source.ended g.L.Sink.taken c.serve_piece.new.link) = λ held is. subst (E held) went (c.serve_piece.ensures.piece held is) in
-    piece-further (g.A.Desk.protocol c.args.desk.now) g.L.Source.tells c.pieces.requests c.in-Ok-Open.more c.pieces.reading.session
+    piece-further (g.A.Desk.protocol c.args.desk.now c.args.date) g.L.Source.tells c.pieces.requests c.in-Ok-Open.more c.pieces.reading.session
     c.serve_piece.new.reading.session c.pieces.seat c.serve_piece.new.seat
     (seen g.L.Source.given g.L.Source.ended g.L.Sink.taken c.pieces.link) (seen g.L.Source.given g.L.Source.ended g.L.Sink.taken c.serve_piece.new.link) c.pieces.invariant.few c.pieces.invariant.waits goes
 
 pub pieces-preserved : goal.pieces-preserved
 pieces-preserved g c =
-    let E : List ℕ → Result Progress ServeFault → Type 0 = λ held r. IsPieceEnd (g.A.Desk.protocol c.args.desk.now) g.L.Source.tells c.pieces.requests held c.pieces.seat
+    let E : List ℕ → Result Progress ServeFault → Type 0 = λ held r. IsPieceEnd (g.A.Desk.protocol c.args.desk.now c.args.date) g.L.Source.tells c.pieces.requests held c.pieces.seat
     c.serve_piece.new.seat (seen g.L.Source.given g.L.Source.ended g.L.Sink.taken c.pieces.link) (seen g.L.Source.given g.L.Source.ended g.L.Sink.taken c.serve_piece.new.link) c.serve_piece.new.reading.session r in
     let C : Result Progress ServeFault → Type 0 = λ r. IsServeCause (g.L.Source.faults c.pieces.link) (g.L.Source.faults c.serve_piece.new.link) r in
-    let Y : Result Progress ServeFault → Type 0 = λ r. IfOk r (λ (x : Progress). IsReadyBehind (g.A.Desk.protocol c.args.desk.now) c.serve_piece.new.seat x) in
+    let Y : Result Progress ServeFault → Type 0 = λ r. IfOk r (λ (x : Progress). IsReadyBehind (g.A.Desk.protocol c.args.desk.now c.args.date) c.serve_piece.new.seat x) in
     let R : ℕ → Type 0 = λ m. 0 < m in
     let went : c.serve_piece.result ≡ Ok (Open c.in-Ok-Open.more) = cc (c.in-Ok-Open.is, c.in-Ok-Open.field-0-is) in
-    let goes : Goes (g.A.Desk.protocol c.args.desk.now) g.L.Source.tells c.pieces.requests c.in-Ok-Open.more c.pieces.reading.session c.serve_piece.new.reading.session
+    let goes : Goes (g.A.Desk.protocol c.args.desk.now c.args.date) g.L.Source.tells c.pieces.requests c.in-Ok-Open.more c.pieces.reading.session c.serve_piece.new.reading.session
     c.pieces.seat c.serve_piece.new.seat (seen g.L.Source.given g.L.Source.ended g.L.Sink.taken c.pieces.link) (seen g.L.Source.given g.L.Source.ended g.L.Sink.taken c.serve_piece.new.link) = λ held is. subst (E held) went (c.serve_piece.ensures.piece held is) in
-    let next = piece-waits (g.A.Desk.protocol c.args.desk.now) g.L.Source.tells c.pieces.requests c.in-Ok-Open.more c.pieces.reading.session
+    let next = piece-waits (g.A.Desk.protocol c.args.desk.now c.args.date) g.L.Source.tells c.pieces.requests c.in-Ok-Open.more c.pieces.reading.session
     c.serve_piece.new.reading.session c.pieces.seat c.serve_piece.new.seat
     (seen g.L.Source.given g.L.Source.ended g.L.Sink.taken c.pieces.link) (seen g.L.Source.given g.L.Source.ended g.L.Sink.taken c.serve_piece.new.link) c.pieces.invariant.waits goes in
     record {
       goes = λ held s' new result is served.
-          let back = piece-goes (g.A.Desk.protocol c.args.desk.now) g.L.Source.tells c.any_pieces.ensures.open c.pieces.requests c.in-Ok-Open.more c.pieces.reading.session
+          let back = piece-goes (g.A.Desk.protocol c.args.desk.now c.args.date) g.L.Source.tells c.any_pieces.ensures.open c.pieces.requests c.in-Ok-Open.more c.pieces.reading.session
           c.serve_piece.new.reading.session c.pieces.seat c.serve_piece.new.seat s' (seen g.L.Source.given g.L.Source.ended g.L.Sink.taken c.pieces.link) (seen g.L.Source.given g.L.Source.ended g.L.Sink.taken c.serve_piece.new.link) new held result
           c.pieces.invariant.waits goes is served in
           c.pieces.invariant.goes back.0 s' new result back.1 back.2;
@@ -69,7 +69,7 @@ pieces-preserved g c =
 
 pub returns-in-Ok-Closed-clause-served : goal.returns-in-Ok-Closed-clause-served
 returns-in-Ok-Closed-clause-served g c =
-    let E : List ℕ → Result Progress ServeFault → Type 0 = λ held r. IsPieceEnd (g.A.Desk.protocol c.args.desk.now) g.L.Source.tells c.pieces.requests held c.pieces.seat
+    let E : List ℕ → Result Progress ServeFault → Type 0 = λ held r. IsPieceEnd (g.A.Desk.protocol c.args.desk.now c.args.date) g.L.Source.tells c.pieces.requests held c.pieces.seat
     c.serve_piece.new.seat (seen g.L.Source.given g.L.Source.ended g.L.Sink.taken c.pieces.link) (seen g.L.Source.given g.L.Source.ended g.L.Sink.taken c.serve_piece.new.link) c.serve_piece.new.reading.session r in
     let went : c.serve_piece.result ≡ Ok (Closed c.in-Ok-Closed.requests) = cc (c.in-Ok-Closed.is, c.in-Ok-Closed.field-0-is) in
     let some = waits-some c.pieces.reading.session c.pieces.invariant.waits in

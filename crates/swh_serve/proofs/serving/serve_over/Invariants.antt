@@ -12,14 +12,14 @@ abbrev pub invariant-pieces : goal.invariant-pieces
 invariant-pieces g l = record {
   goes :
       (held : List ℕ) (s' : g.row.S.Denot) (new : Seen) (result : Result Served ServeFault) → l.reading.session ≡ Some held
-      → IsServedFrom (g.A.Desk.protocol l.desk) g.L.Source.tells l.requests held l.seat s'
+      → IsServedFrom (g.A.Desk.protocol l.desk l.date) g.L.Source.tells l.requests held l.seat s'
       (seen g.L.Source.given g.L.Source.ended g.L.Sink.taken l.link) new result
-      → IsServed (g.A.Desk.protocol l.desk) g.L.Source.tells l.initial.seat s'
+      → IsServed (g.A.Desk.protocol l.desk l.date) g.L.Source.tells l.initial.seat s'
       (seen g.L.Source.given g.L.Source.ended g.L.Sink.taken l.initial.link) new result;
   waits : IsWaiting l.reading.session;
   room : 0 < vec_len l.reading.buffer;
   few : l.requests < requests_limit;
-  ready : (g.A.Desk.protocol l.desk).ready l.seat;
+  ready : (g.A.Desk.protocol l.desk l.date).ready l.seat;
   same_count : g.L.Source.faults l.link ≡ g.L.Source.faults l.initial.link;
 }
 

@@ -39,7 +39,7 @@ returns-in-Ok-Asks-clause-piece g c = λ held is.
     let asked : c.read_asks.result ≡ Ok (Asks c.in-Ok-Asks.asks) = cc (c.in-Ok-Asks.is, c.in-Ok-Asks.field-0-is) in
     let came = subst R asked (c.read_asks.ensures.read held is) in
     let heard = sym (link.gets_stay c.answer_asks.new.sink) ∙ c.answer_asks.ensures.same_heard ∙ link.gets_stay c.read_asks.new.link in
-    asked-so (g.A.Desk.protocol c.args.desk.now) g.L.Source.tells g.L.Sink.tells (link.both_tell).0 c.args.requests held came.0
+    asked-so (g.A.Desk.protocol c.args.desk.now c.args.date) g.L.Source.tells g.L.Sink.tells (link.both_tell).0 c.args.requests held came.0
     c.as_slice.result.now c.read_asks.new.reading.session c.args.seat.now c.answer_asks.new.seat
     (seen g.L.Source.given g.L.Source.ended g.L.Sink.taken c.args.link.now)
     (seen g.L.Source.given g.L.Source.ended g.L.Sink.taken c.read_asks.new.link)
@@ -55,14 +55,14 @@ returns-in-Ok-End-clause-piece g c = λ held is.
     (seen g.L.Source.given g.L.Source.ended g.L.Sink.taken c.read_asks.new.link) c.read_asks.new.reading.session r in
     let met : c.read_asks.result ≡ Ok End = cc (c.in-Ok-End.is, c.in-Ok-End.field-0-is) in
     let came = subst R met (c.read_asks.ensures.read held is) in
-    link-ends (g.A.Desk.protocol c.args.desk.now) g.L.Source.tells c.args.requests held c.args.seat.now
+    link-ends (g.A.Desk.protocol c.args.desk.now c.args.date) g.L.Source.tells c.args.requests held c.args.seat.now
     (seen g.L.Source.given g.L.Source.ended g.L.Sink.taken c.args.link.now)
     (seen g.L.Source.given g.L.Source.ended g.L.Sink.taken c.read_asks.new.link) c.read_asks.new.reading.session c.end_of.result
     (rw is at c.requires.waits) c.read_asks.ensures.same_taken came.1 came.2 (rw came.0 at c.end_of.ensures)
 
 pub returns-in-Err-clause-piece : goal.returns-in-Err-clause-piece
 returns-in-Err-clause-piece g c = λ held is.
-    read-stops (g.A.Desk.protocol c.args.desk.now) g.L.Source.tells c.args.requests held c.args.seat.now
+    read-stops (g.A.Desk.protocol c.args.desk.now c.args.date) g.L.Source.tells c.args.requests held c.args.seat.now
     (seen g.L.Source.given g.L.Source.ended g.L.Sink.taken c.args.link.now)
     (seen g.L.Source.given g.L.Source.ended g.L.Sink.taken c.read_asks.new.link) c.read_asks.new.reading.session c.in-Err.fault
     (rw is at c.requires.waits) c.read_asks.ensures.same_taken (c.in-Err.ensures.read held is)
