@@ -64,6 +64,11 @@ method_of Known = codes "POST"
 method_of (Load url) = codes "POST"
 method_of _ = codes "GET"
 
+-- A path of this shape is asked by the method. One that is asked by GET is asked by HEAD too, and has the same reply (RFC 9110,
+-- section 9.3.2): its body is left out where it is put.
+abbrev pub IsMethodOf : List ℕ → Shape → Type 0
+IsMethodOf method shape = (method ≡ method_of shape) ⊎ ((method ≡ codes "HEAD") × (method_of shape ≡ codes "GET"))
+
 -- What is answered to a path of this shape. A load of a URL is no question, and is answered elsewhere.
 abbrev pub IsShapeReply : Archive → List ℕ → Shape → Reply → Type 0
 IsShapeReply a body Known reply = IsKnownReply a body reply
@@ -88,8 +93,8 @@ HasNoShape path = (shape : Shape) → Spells path shape → ⊥
 -- what is answered to a request for a path of this shape: the method is looked at first
 abbrev pub IsReplyTo : Archive → Request → Shape → Reply → Type 0
 IsReplyTo a request shape reply =
-    ((request.method ≢ method_of shape) × (reply ≡ error_reply 405 (codes "method")))
-    ⊎ ((request.method ≡ method_of shape) × IsShapeReply a request.body shape reply)
+    ((IsMethodOf request.method shape → ⊥) × (reply ≡ error_reply 405 (codes "method")))
+    ⊎ (IsMethodOf request.method shape × IsShapeReply a request.body shape reply)
 
 -- The reply is the archive's answer to the request.
 abbrev pub IsAnswer : Archive → Request → Reply → Type 0

@@ -1,5 +1,5 @@
 -- Names that are cooked: all that is reached from them is held, and a stream carries it.
-use Rattle.std.specs.Prelude.{◌≡◌, ℕ, Option, List, codes}
+use Rattle.std.specs.Prelude.{◌≡◌, ℕ, Option, List}
 use Rattle.swh_base.specs.declared.kind.Kind.{Kind}
 use Rattle.swh_base.specs.declared.name.Name.{Name}
 use Rattle.swh_base.specs.declared.request.Request.{Request}
@@ -10,13 +10,14 @@ use Rattle.swh_fastcook.specs.Cook.{IsCarriedStream, IsCookedText}
 use Rattle.swh_roundtrip.specs.LoadsBack.{LoadsBack}
 use Rattle.swh_replies.specs.Shape.{Cook, Spells}
 use Rattle.swh_replies.specs.Answers.{plain_reply}
+use Rattle.swh_api.specs.Answer.{IsMethodOf}
 use Rattle.swh_api.specs.Cook.{SpellsCooked}
 
 -- The request asks for this name to be cooked, which is no directory.
 pub record AsksCook (request : Request) (name : Name) : Type 0 where
-  pub method : request.method ≡ codes "GET"
   pub text : List ℕ
   pub path : Spells request.path (Cook text)
+  pub method : IsMethodOf request.method (Cook text)
   pub spells : SpellsCooked text name
 
 -- All that is reached from the name is held, and a stream carries it.

@@ -4,5 +4,6 @@ pub mod Collected
 pub mod Cook
 pub mod Fault
 pub mod Get
+pub mod Load
 pub mod Refusal
 pub mod Route

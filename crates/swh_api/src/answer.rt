@@ -3,7 +3,7 @@ ghost use Rattle.std.specs.Prelude.{◌≡◌, ◌↔◌, ℕ, List, IsTrue, IfO
 ghost use Rattle.swh_replies.specs.Answers.{NoUrl};
 ghost use Rattle.swh_replies.specs.Json.{error_reply};
 ghost use Rattle.swh_replies.specs.Shape.{Load, shape_of};
-ghost use Rattle.swh_api.specs.Answer.{method_of, IsShapeReply, IsAnswer};
+ghost use Rattle.swh_api.specs.Answer.{method_of, IsMethodOf, IsShapeReply, IsAnswer};
 ghost use Rattle.swh_api.specs.Route.{AsksNoLoad};
 
 use crate::cooking::cook_reply;
@@ -28,11 +28,12 @@ fn method_of(asked: &Asked<'_>) -> &'static [u8]
     }
 }
 
-// Whether this is the method that a path is asked by.
+// Whether a path is asked by this method. One that is asked by GET is asked by HEAD too.
 fn is_method_of(asked: &Asked<'_>, method: &[u8]) -> bool
-    ensures { IsTrue result ↔ (method.now ≡ method_of (shape_of asked.now)) }
+    ensures { IsTrue result ↔ IsMethodOf method.now (shape_of asked.now) }
 {
-    method == method_of(asked)
+    let own = method_of(asked);
+    method == own || (method == b"HEAD".as_slice() && own == b"GET".as_slice())
 }
 
 // The reply to what a path asks for, by its method, with this body.

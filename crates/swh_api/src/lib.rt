@@ -8,6 +8,7 @@ mod collected;
 mod cooking;
 mod get;
 mod laws;
+mod posted;
 mod objects;
 mod refusals;
 mod routing;
@@ -15,6 +16,7 @@ mod wanted;
 
 pub use answer::reply;
 pub use get::reply_to_get;
+pub use posted::load_reply;
 pub use laws::{carried_is_cooked, one_answer, what_was_answered_loads_back};
 pub use refusals::refusal_reply;
 pub use routing::route;

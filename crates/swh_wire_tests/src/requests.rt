@@ -56,7 +56,6 @@ const REFUSALS: &[Case] = &[
     // With another method nothing else is looked at: no id, no URL, no body, and nothing that is held or not.
     ((b"DELETE", &[b"/api/1/known/"], b""), METHOD),
     ((b"GET", &[b"/api/1/known/"], b"["), METHOD),
-    ((b"HEAD", &[b"/api/1/revision/x/"], b""), METHOD),
     ((b"", &[b"/api/1/origin//visits/"], b""), METHOD),
     (
         (
@@ -104,6 +103,34 @@ const REFUSALS: &[Case] = &[
     ),
 ];
 
+// A path that is asked by GET is asked by HEAD too, and has the same reply. Others are not.
+const HEADS: &[Case] = &[
+    (
+        (b"HEAD", &[b"/api/1/origin/https://e.org/p/get/"], b""),
+        Answer::Json(200, &[b"{\"url\":\"https://e.org/p\",\"visits\":2}"]),
+    ),
+    (
+        (b"HEAD", &[b"/api/1/raw/", VERSION_1, b"/"], b""),
+        Answer::Plain(b"version 1\n"),
+    ),
+    ((b"HEAD", &[b"/x"], b""), NO_PATH),
+    (
+        (
+            b"HEAD",
+            &[b"/api/1/origin/https://none.example/get/"],
+            b"",
+        ),
+        NO_PATH,
+    ),
+    ((b"HEAD", &[b"/api/1/revision/x/"], b""), NO_TEXT),
+    ((b"HEAD", &[b"/api/1/known/"], b"[]"), METHOD),
+    (
+        (b"HEAD", &[b"/api/1/load/fast/https://e.org/p/"], b""),
+        METHOD,
+    ),
+    ((b"head", &[b"/api/1/raw/", VERSION_1, b"/"], b""), METHOD),
+];
+
 #[test]
 fn each_load_is_told(rt: HostRuntime) -> Result<(), Fail> {
     assert_eq!(rt; first_other(rt.alloc(), LOADS)?, LOADS.len());
@@ -113,5 +140,11 @@ fn each_load_is_told(rt: HostRuntime) -> Result<(), Fail> {
 #[test]
 fn each_refusal_is_in_order(rt: HostRuntime) -> Result<(), Fail> {
     assert_eq!(rt; first_other(rt.alloc(), REFUSALS)?, REFUSALS.len());
+    Ok(())
+}
+
+#[test]
+fn a_head_is_answered_as_a_get_is(rt: HostRuntime) -> Result<(), Fail> {
+    assert_eq!(rt; first_other(rt.alloc(), HEADS)?, HEADS.len());
     Ok(())
 }
