@@ -6,7 +6,8 @@
 A repository with an octopus and a signed merge, a submodule, a note, odd names, tags of tags, of trees and of blobs, an empty
 tree that git does not store, refs to a tree and a blob, and a commit that was amended away is kept by `examples/archive-git`; so
 are a shallow clone, a repository of SHA-256, one with a broken ref and one with a corrupt object, each of which is refused in one
-line. A working tree with links, programs and odd names is kept by `examples/archive-folder`, whose directory has git's id, and
+line. `examples/restore-git` makes the repository again, with the same refs, HEAD and objects, of which `git fsck` tells no fault; a
+snapshot that is not held, a folder that is not empty and refs that git does not take are told in a line each. A working tree with links, programs and odd names is kept by `examples/archive-folder`, whose directory has git's id, and
 made again by `cook` and `examples/restore-modes`; one with a pipe and a bad name is refused with both named. An export that fails
 is not loaded by `examples/archive-export`, and one that ends well is. The scripts run the built program, whatever PROGRAM says.
 """
@@ -31,6 +32,13 @@ class Repository:
     def __init__(self, path, *options):
         self.path = path
         subprocess.run(["git", "init", "-q", "-b", "main", *options, str(path)], check=True)
+
+    @classmethod
+    def at(cls, path):
+        """One that is there."""
+        it = cls.__new__(cls)
+        it.path = path
+        return it
 
     def git(self, *words, given=None):
         done = subprocess.run(["git", "-C", str(self.path), *words], check=True, input=given, stdout=subprocess.PIPE,
@@ -108,6 +116,41 @@ def try_git(verdict, program, room):
     status, printed, errors = run("archive-git", "--all-objects", it.path, room / "B")
     asked = subprocess.run([program, "ask", room / "B", "/api/1/revision/%s/" % gone], stdout=subprocess.PIPE).stdout
     verdict.as_told("--all-objects keeps it", None if status == 0 and asked.startswith(b"200 ") else printed + errors)
+    try_restore(verdict, room, it)
+
+
+def objects_of(it):
+    return sorted(it.git("rev-list", "--objects", "--no-object-names", "--all").split())
+
+
+def try_restore(verdict, room, it):
+    """What `try_git` kept in the archive A comes out as it was."""
+    words = room / "A", it.path.as_uri(), room / "restored"
+    status, printed, errors = run("restore-git", *words)
+    again = Repository.at(room / "restored")
+    same = status == 0 and again.git("for-each-ref") == it.git("for-each-ref") and objects_of(again) == objects_of(it)
+    verdict.as_told("a repository comes out again", None if same else "status %d, %s%s" % (status, printed, errors))
+    heads = [repository.git("symbolic-ref", "HEAD") for repository in (again, it)]
+    verdict.as_told("with its HEAD", None if heads[0] == heads[1] else heads[0])
+    said = again.git("status", "--porcelain")
+    verdict.as_told("and its files", None if said == "" else said)
+    checked = subprocess.run(["git", "-C", again.path, "fsck", "--full", "--no-dangling"], stdout=subprocess.PIPE, stderr=subprocess.STDOUT)
+    verdict.as_told("git fsck has no fault to find", None if checked.returncode == 0 else repr(checked.stdout))
+    verdict.as_told("a folder that is not empty", is_refused(run("restore-git", *words), "no empty folder"))
+    unknown = run("restore-git", room / "A", "swh:1:snp:" + "1" * 40, room / "none")
+    verdict.as_told("a snapshot that is not held", is_refused(unknown, "no snapshot"))
+
+
+def try_odd_refs(verdict, room):
+    """Refs that a stream may have and git does not take."""
+    stream = room / "odd.fi"
+    commit = b"commit %s\ncommitter A <a@e.org> 1 +0000\ndata 2\nm\n\n"
+    stream.write_bytes(commit % b"refs/heads/a..b" + commit % b"refs/heads/good")
+    run("archive-export", "--head", "refs/heads/good", "https://e.org/odd", room / "O", "--", "cat", stream)
+    status, printed, errors = run("restore-git", "--bare", room / "O", "https://e.org/odd", room / "odd.git")
+    refs = Repository.at(room / "odd.git").git("for-each-ref", "--format=%(refname)")
+    told = status == 1 and printed.startswith("left out  refs/heads/a..b: ") and refs == "refs/heads/good" and not errors
+    verdict.as_told("a ref that git does not take is told", None if told else "status %d, %s%s" % (status, printed, errors))
 
 
 def try_faulty(verdict, room):
@@ -182,6 +225,7 @@ def main():
         room = pathlib.Path(folder)
         try_git(verdict, program, room)
         try_faulty(verdict, room)
+        try_odd_refs(verdict, room)
         try_folder(verdict, program, room)
         try_export(verdict, room)
     verdict.end()

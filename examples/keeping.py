@@ -1,7 +1,10 @@
-"""What the scripts that keep something in an archive share: the program, a load, and how a failure is told."""
+"""What the scripts that keep something in an archive, or get it back, share: the program, a load, what stands in the archive's store,
+and how a failure is told."""
+import hashlib
 import os
 import pathlib
 import shutil
+import struct
 import subprocess
 import sys
 
@@ -10,6 +13,9 @@ sys.dont_write_bytecode = True
 TOP = pathlib.Path(__file__).resolve().parent.parent
 PROGRAM = TOP / "crates" / "swharc" / "out" / "swharc"
 MOST_SHOWN = 120
+WORDS = {1: b"blob", 2: b"tree", 3: b"commit", 4: b"tag", 5: b"snapshot"}
+SNAPSHOT = 5
+HEADER = struct.Struct(">BQ20s")
 
 
 class Failed(Exception):
@@ -73,6 +79,41 @@ def load(archive, folder, *job):
     if ended != b"full":
         raise NotFull(detail)
     return bytes.fromhex(detail.rpartition(b":")[2].decode())
+
+
+def stored(archive, wanted):
+    """Of the objects that are wanted the kind, the id and the body, from the archive's store, which has each once: objects one
+    after another, each behind a header."""
+    with open(os.path.join(archive, "1"), "rb") as store:
+        while len(head := store.read(HEADER.size)) == HEADER.size:
+            kind, size, id = HEADER.unpack(head)
+            if id in wanted:
+                yield kind, id, store.read(size)
+            else:
+                store.seek(size, os.SEEK_CUR)
+
+
+def id_of(kind, body):
+    """The id that bytes have as an object of a kind."""
+    return hashlib.sha1(b"%s %d\0" % (WORDS[kind], len(body)) + body).digest()
+
+
+def snapshot_body(archive, id):
+    """The body of the snapshot of this id."""
+    for kind, found, body in stored(archive, {id}):
+        if kind == SNAPSHOT:
+            return body
+    raise Failed("the store does not have the snapshot")
+
+
+def branches_of(body):
+    """The branches of a snapshot's body: the word of what each leads to, its name, and its target."""
+    while body:
+        word, _, rest = body.partition(b" ")
+        name, _, rest = rest.partition(b"\0")
+        length, _, rest = rest.partition(b":")
+        yield word, name, rest[:int(length)]
+        body = rest[int(length):]
 
 
 def end_with(script, body, *words):
