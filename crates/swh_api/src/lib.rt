@@ -8,16 +8,16 @@ mod collected;
 mod cooking;
 mod get;
 mod laws;
-mod posted;
 mod objects;
+mod posted;
 mod refusals;
 mod routing;
 mod wanted;
 
 pub use answer::reply;
 pub use get::reply_to_get;
-pub use posted::load_reply;
 pub use laws::{carried_is_cooked, one_answer, what_was_answered_loads_back};
+pub use posted::load_reply;
 pub use refusals::refusal_reply;
 pub use routing::route;
 pub use wanted::Route;

@@ -39,7 +39,10 @@ pub fn serve_at_keeper<N: Namer, D: Disk, L: Link>(
 {
     let desk = DeskCall {
         said: AtKeeper,
-        answer: |keeper: &mut Keeper<N, D>, request: &Request, date: u64| -> Result<Answered, Memory>
+        answer: |keeper: &mut Keeper<N, D>, request: &Request, date: u64| -> Result<
+            Answered,
+            Memory,
+        >
             ensures answers { IfOk result (λ a. AnswersAt N.id_of (disks D.tells D.file D.faults) date request.now
                 a.reply a.closes keeper.old keeper.new) }
             ensures has_body { IfOk result (λ a. HasBody a.reply.status) }

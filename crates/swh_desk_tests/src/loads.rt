@@ -10,7 +10,10 @@ const POST: &[u8] = b"/api/1/load/fast/https://e.org/p/";
 // A connection of the papers: a stream without commands, and its visit. Then a HEAD, the same stream again, and streams that
 // break.
 const OF_ONE_ORIGIN: &[Row] = &[
-    ((b"GET", VISITS, b""), (404, false, b"{\"error\":\"not found\"}")),
+    (
+        (b"GET", VISITS, b""),
+        (404, false, b"{\"error\":\"not found\"}"),
+    ),
     (
         (b"POST", POST, b""),
         (
@@ -56,7 +59,10 @@ const OF_ONE_ORIGIN: &[Row] = &[
         ),
     ),
     // What is no load: another method, and a text that is no URL.
-    ((b"HEAD", POST, b""), (405, false, b"{\"error\":\"method\"}")),
+    (
+        (b"HEAD", POST, b""),
+        (405, false, b"{\"error\":\"method\"}"),
+    ),
     (
         (b"POST", b"/api/1/load/fast//", STREAM),
         (400, false, b"{\"error\":\"swhid\"}"),
@@ -70,7 +76,11 @@ const OF_ONE_ORIGIN: &[Row] = &[
 // A blob and a commit of it, for an origin whose text is escaped; and what is held then, by the names that git gives.
 const OF_ONE_COMMIT: &[Row] = &[
     (
-        (b"GET", b"/api/1/raw/swh:1:cnt:83baae61804e65cc73a7201a7252750c76066a30/", b""),
+        (
+            b"GET",
+            b"/api/1/raw/swh:1:cnt:83baae61804e65cc73a7201a7252750c76066a30/",
+            b"",
+        ),
         (
             404,
             false,
@@ -87,23 +97,41 @@ const OF_ONE_COMMIT: &[Row] = &[
         ),
     ),
     (
-        (b"GET", b"/api/1/raw/swh:1:cnt:83baae61804e65cc73a7201a7252750c76066a30/", b""),
+        (
+            b"GET",
+            b"/api/1/raw/swh:1:cnt:83baae61804e65cc73a7201a7252750c76066a30/",
+            b"",
+        ),
         (200, false, b"version 1\n"),
     ),
     (
-        (b"GET", b"/api/1/revision/295c0651a95ba32ac5e14f92da0161b122942cac/log/", b""),
-        (200, false, b"[\"295c0651a95ba32ac5e14f92da0161b122942cac\"]"),
+        (
+            b"GET",
+            b"/api/1/revision/295c0651a95ba32ac5e14f92da0161b122942cac/log/",
+            b"",
+        ),
+        (
+            200,
+            false,
+            b"[\"295c0651a95ba32ac5e14f92da0161b122942cac\"]",
+        ),
     ),
 ];
 
 #[test]
 fn streams_of_one_origin(rt: HostRuntime) -> Result<(), Fail> {
-    assert_eq!(rt; first_other(rt.alloc(), &[], OF_ONE_ORIGIN)?, OF_ONE_ORIGIN.len());
+    assert_eq!(rt;
+        first_other(rt.alloc(), &[], OF_ONE_ORIGIN)?,
+        OF_ONE_ORIGIN.len()
+    );
     Ok(())
 }
 
 #[test]
 fn a_commit_is_held(rt: HostRuntime) -> Result<(), Fail> {
-    assert_eq!(rt; first_other(rt.alloc(), &[], OF_ONE_COMMIT)?, OF_ONE_COMMIT.len());
+    assert_eq!(rt;
+        first_other(rt.alloc(), &[], OF_ONE_COMMIT)?,
+        OF_ONE_COMMIT.len()
+    );
     Ok(())
 }

@@ -11,12 +11,7 @@ pub type Row = (
     (u16, bool, &'static [u8]),
 );
 
-fn request_of(
-    alloc: Global,
-    method: &[u8],
-    path: &[u8],
-    body: &[u8],
-) -> Result<Request, Memory> {
+fn request_of(alloc: Global, method: &[u8], path: &[u8], body: &[u8]) -> Result<Request, Memory> {
     Ok(Request {
         method: Bytes::from_slice(alloc, method)?,
         path: Bytes::from_slice(alloc, path)?,
@@ -29,9 +24,11 @@ fn is_answered(alloc: Global, keeper: &mut Archive<Sha1Namer>, row: &Row) -> Res
     let ((method, path, body), (status, closes, told)) = row;
     let request = request_of(alloc, method, path, body)?;
     let answered = answer_at_keeper(alloc, &Sha1Namer, keeper, &request, 1_000_000_000)?;
-    Ok(answered.reply.status == *status
-        && answered.closes == *closes
-        && answered.reply.body.as_slice() == *told)
+    Ok(
+        answered.reply.status == *status
+            && answered.closes == *closes
+            && answered.reply.body.as_slice() == *told,
+    )
 }
 
 fn first_other_at(

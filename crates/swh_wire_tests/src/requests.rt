@@ -115,11 +115,7 @@ const HEADS: &[Case] = &[
     ),
     ((b"HEAD", &[b"/x"], b""), NO_PATH),
     (
-        (
-            b"HEAD",
-            &[b"/api/1/origin/https://none.example/get/"],
-            b"",
-        ),
+        (b"HEAD", &[b"/api/1/origin/https://none.example/get/"], b""),
         NO_PATH,
     ),
     ((b"HEAD", &[b"/api/1/revision/x/"], b""), NO_TEXT),
