@@ -50,5 +50,5 @@ pub fn serve_at_keeper<N: Namer, D: Disk, L: Link>(
                 keeper.old keeper.new) }
         { answer_at_keeper(alloc, namer, keeper, request, date) },
     };
-    serve_over(alloc, &desk, keeper, link, date)
+    serve_over(alloc, &desk, date, keeper, link)
 }
