@@ -14,6 +14,7 @@ pub record Seen : Type 0 where
   pub ended : Bool
   pub taken : List ℕ
 
+-- a link as it is seen by these
 abbrev pub seen : {L : Type 0} → (L → List ℕ) → (L → Bool) → (L → List ℕ) → L → Seen
 seen given ended taken link = record { given = given link; ended = ended link; taken = taken link }
 
