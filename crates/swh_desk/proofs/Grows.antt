@@ -37,7 +37,7 @@ module _ {D : Type 0} (id : Kind → List ℕ → List ℕ) (disks : Disks D) (d
 
   by_reply : (request : Request) (reply : Reply) (closes : Bool) (old new : Kept D) → IsReply (keeper_protocol id disks date) request reply closes old new → HasGrown old new
   by_reply request reply closes old new (inl answered) = by_answer request reply closes old new answered
-  by_reply request reply closes old new (inr lacks) = by_want request old new lacks.2.1
+  by_reply request reply closes old new (inr lacks) = by_want request old new lacks.2
 
   by_turn : (n : ℕ) (ask : Ask) (reply : Reply) (keep : Bool) (old new : Kept D) → IsTurn (keeper_protocol id disks date) n ask reply keep old new → HasGrown old new
   by_turn n (Asked request) reply keep old new turn = by_reply request reply turn.0 old new turn.1
@@ -45,4 +45,4 @@ module _ {D : Type 0} (id : Kind → List ℕ → List ℕ) (disks : Disks D) (d
 
   pub grown : (n : ℕ) (turns : List Turn) (old new : Kept D) → AreTurns (keeper_protocol id disks date) n turns old new → HasGrown old new
   grown n [] old new same = stays old new same
-  grown n (t ∷ turns) old new are = then old are.0 new (by_turn n t.ask t.reply t.keep old are.0 are.1) (grown (n + 1) turns are.0 new are.2.1)
+  grown n (t ∷ turns) old new are = then old are.0 new (by_turn n t.ask t.reply t.keep old are.0 are.1) (grown (n + 1) turns are.0 new are.3)
