@@ -1,3 +1,4 @@
 pub mod Details
 pub mod Grows
+pub mod InTurn
 pub mod Statuses

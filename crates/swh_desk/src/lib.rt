@@ -10,11 +10,15 @@ mod answering;
 mod body;
 mod keeping;
 mod laws;
+mod links;
 mod loading;
 mod outcome;
 mod reading;
+mod tally;
 
 pub use answering::answer_at_keeper;
 pub use body::{BodySource, NoFolder};
 pub use keeping::{AtKeeper, serve_at_keeper};
 pub use laws::history_grows;
+pub use links::serve_links;
+pub use tally::{ServeStop, Tally};

@@ -8,6 +8,8 @@ mod connections;
 #[cfg(test)]
 mod faults;
 #[cfg(test)]
+mod links;
+#[cfg(test)]
 mod loads;
 #[cfg(test)]
 mod world;
