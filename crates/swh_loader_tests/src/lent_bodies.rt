@@ -1,13 +1,11 @@
-// What a load over a keeper lends its input of a body that is held: the keeper's own, where it lies, and no copy of it.
+// What a load over a keeper lends its input: the body that is held under a name that it gives, and nothing where it is new.
 use crate::walks::{content, content_of};
 use std::alloc::{AllocError, Global};
 use std::marker::Model;
-use std::ptr;
 use std::test::Fail;
-use swh_base::{ByteNamer, Kind, Memory, Name, Namer, Shared, Url, VisitKind};
-use swh_fixtures::{Archive, URL, disk, kept};
+use swh_base::{ByteNamer, Memory, Name, Shared, Url, VisitKind};
+use swh_fixtures::{Archive, URL, made_archive};
 use swh_ingest::{Job, Next, Opening, ReadsParts, Turn, Worker};
-use swh_keeper::Keeper;
 use swh_keeperload::load_kept_parts;
 use swh_object::Object;
 use swh_outside::OpenGate;
@@ -55,7 +53,7 @@ impl ReadsParts<Borrower, Next<ByteNamer, ()>> for Borrows {
 }
 
 // A borrower that gives a content of its own bytes.
-fn borrower(alloc: Global) -> Result<Borrower, AllocError> {
+fn make_borrower(alloc: Global) -> Result<Borrower, AllocError> {
     let mut objects = Vec::with_capacity(alloc, 1)?;
     objects.push(content_of(alloc, BODY.to_vec(alloc)?)?)?;
     Ok(Borrower {
@@ -64,7 +62,7 @@ fn borrower(alloc: Global) -> Result<Borrower, AllocError> {
     })
 }
 
-// Loads what a borrower gives.
+// Says whether a load of what a borrower gives comes to an end.
 fn load(alloc: Global, keeper: &mut Archive<ByteNamer>, origin: &Url, from: &mut Borrower) -> bool {
     let worker = Worker {
         by: 1,
@@ -85,49 +83,40 @@ fn load(alloc: Global, keeper: &mut Archive<ByteNamer>, origin: &Url, from: &mut
     load_kept_parts(alloc, keeper, &turn, &job, from).is_ok()
 }
 
-// Says whether these are the same bytes, at one place.
-fn lie_at_one_place(held: &[u8], lent: &[u8]) -> bool {
-    match (held.first(), lent.first()) {
-        (Some(one), Some(other)) => held == lent && ptr::eq(one, other),
-        _ => false,
-    }
-}
-
-// Says whether what was lent lies in the archive's store, under its name.
-fn is_the_keepers_own(keeper: &Archive<ByteNamer>, lent: &Option<(Name, Shared<u8>)>) -> bool {
+// Says whether what was lent is a body that is held, under its name.
+fn is_held(keeper: &Archive<ByteNamer>, lent: &Option<(Name, Shared<u8>)>) -> bool {
     let Some((name, body)) = lent else {
         return false;
     };
     match keeper.store().get(name) {
-        Some(entry) => lie_at_one_place(entry.body.as_slice(), body.as_slice()),
+        Some(entry) => entry.body.as_slice() == body.as_slice(),
         None => false,
     }
 }
 
-// Says whether a content that is held is lent where it lies, and one that is new is not lent.
-fn comes_out(alloc: Global) -> Result<bool, AllocError> {
-    let Ok(origin) = Url::new(alloc, URL) else {
-        return Ok(false);
-    };
-    let ledger = disk(alloc, b"", &[])?;
-    let store = disk(alloc, b"", &[])?;
-    let Ok(keeper) = kept(Keeper::make(alloc, ByteNamer, store, ledger)) else {
-        return Ok(false);
-    };
-    let mut keeper = keeper;
-    let mut first = borrower(alloc)?;
-    let new = load(alloc, &mut keeper, &origin, &mut first) && first.lent.is_none();
+// Says whether the body of a content that is held is lent, and none of one that is new.
+fn are_lent(
+    alloc: Global,
+    keeper: &mut Archive<ByteNamer>,
+    origin: &Url,
+) -> Result<bool, AllocError> {
+    let mut first = make_borrower(alloc)?;
+    let new = load(alloc, keeper, origin, &mut first) && first.lent.is_none();
     let held = keeper.apply(1, content(alloc, BODY)?).is_ok();
-    let mut second = borrower(alloc)?;
-    let again = load(alloc, &mut keeper, &origin, &mut second);
-    let own = is_the_keepers_own(&keeper, &second.lent);
-    let (_store, _ledger) = keeper.close();
-    Ok(new && held && again && own)
+    let mut second = make_borrower(alloc)?;
+    let again = load(alloc, keeper, origin, &mut second);
+    Ok(new && held && again && is_held(keeper, &second.lent))
 }
 
 #[test]
-fn held_bodies_are_lent_where_they_lie(rt: HostRuntime) -> Result<(), Fail> {
+fn held_bodies_are_lent(rt: HostRuntime) -> Result<(), Fail> {
     let alloc = rt.alloc();
-    assert!(rt; comes_out(alloc)?);
+    let Ok(origin) = Url::new(alloc, URL) else {
+        return Err(Fail::from("a URL"));
+    };
+    let mut keeper = made_archive(alloc, ByteNamer, &[], &[])?;
+    let lent = are_lent(alloc, &mut keeper, &origin);
+    let (_store, _ledger) = keeper.close();
+    assert!(rt; lent?);
     Ok(())
 }
