@@ -70,9 +70,11 @@ impl<'a> Source for BodySource<'a> {
     }
 }
 
-/// There is no folder of this kind: what is posted is a stream.
-#[derive(Drop)]
-pub enum NoFolder {}
+/// A folder in which nothing stands, for inputs of which none is a folder: what is posted is a stream.
+#[derive(Debug, Drop)]
+pub struct NoFolder {
+    faults: u64,
+}
 
 impl Folder for NoFolder {
     ghost use Rattle.std.specs.Prelude.{[]};
@@ -86,17 +88,16 @@ impl Folder for NoFolder {
 
     ghost opened_at = { λ _. [] };
 
-    ghost faults = { λ _. 0 };
+    ghost faults = { λ folder. folder.faults };
 
-    fn list(&mut self, _alloc: Global, _dir: &str) -> Result<Vec<Item>, OutFault> {
-        match *self {}
+    fn list(&mut self, alloc: Global, _dir: &str) -> Result<Vec<Item>, OutFault> {
+        Ok(Vec::new(alloc))
     }
 
     fn read(&mut self, _path: &str) -> Result<BodySource<'static>, OutFault> {
-        match *self {}
+        self.faults = self.faults.saturating_add(1);
+        Err(OutFault::Failed)
     }
 
-    fn back(&mut self, _source: BodySource<'static>) {
-        match *self {}
-    }
+    fn back(&mut self, _source: BodySource<'static>) {}
 }
