@@ -13,9 +13,9 @@ use Rattle.swh_desk.specs.declared.body.NoFolder.{NoFolder}
 abbrev pub unread : List ℕ → Heard
 unread body = record { left = body; given = []; ended = false }
 
--- what is posted: a body tells what is left of it, never fails and has no path, and there are no folders
+-- what is posted: a body tells what is left of it, never fails and has no path, and its folders hold nothing
 abbrev pub posted_parts : Parts Heard NoFolder
-posted_parts = parts (sources (Unit {0}) (λ b. b.left) (λ _. 0) (λ _. [])) (folders ⊥ (λ _. nothing) (λ _. 0) (λ _. []))
+posted_parts = parts (sources (Unit {0}) (λ b. b.left) (λ _. 0) (λ _. [])) (folders ⊥ (λ _. nothing) (λ folder. folder.faults) (λ _. []))
 
 -- a body that is posted is a stream, for which no head is named
 abbrev pub posted : List ℕ → Input Heard NoFolder
