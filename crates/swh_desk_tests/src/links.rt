@@ -120,14 +120,12 @@ fn were_put(links: &[MemoryLink], put: &[&[u8]]) -> bool {
 }
 
 fn is_served_so(alloc: Global, row: &Row) -> Result<bool, Fail> {
-    let mut keeper = made_archive(alloc, Sha1Namer, &[], &[])?;
     let links = links_of(alloc, row.sent)?;
-    let mut doors = MemoryDoors::with_links(
-        alloc,
-        links,
-        Vec::from_slice(alloc, row.doors_failing)?,
-    );
-    let mut clock = MemoryClock::new(DATE, Vec::from_slice(alloc, row.clock_failing)?);
+    let doors_failing = Vec::from_slice(alloc, row.doors_failing)?;
+    let clock_failing = Vec::from_slice(alloc, row.clock_failing)?;
+    let mut doors = MemoryDoors::with_links(alloc, links, doors_failing);
+    let mut clock = MemoryClock::new(DATE, clock_failing);
+    let mut keeper = made_archive(alloc, Sha1Namer, &[], &[])?;
     let ended = serve_links(alloc, &Sha1Namer, &mut keeper, &mut doors, &mut clock, 3);
     let (_store, _ledger) = keeper.close();
     Ok(has_ended_so(&ended, 3, row.ends) && were_put(doors.links_back(), row.put))
